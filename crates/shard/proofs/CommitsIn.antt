@@ -27,6 +27,7 @@ use Rattle.shard_contents.specs.Transactions as refusals
 use Rattle.shard_contents.proofs.Bags.{length-same}
 use Rattle.shard_contents.proofs.Commits as commits
 use Rattle.shard.proofs.Moves.{pending_later, pending_may}
+use Rattle.shard_contents.specs.inner.StoredLogs.{count_of}
 use Rattle.shard_contents.proofs.States.{stored-same}
 use Rattle.shard_contents.proofs.Tables.{all_there}
 use Rattle.shard.proofs.Totals.{room_for, no_room_for}
@@ -70,7 +71,7 @@ module _ (o : Opening) (most : Limits) (seat : SeatView Entry) (c : Contents) (i
     pub changes_there : AllByRecursion (λ c. changed_table c < length o.schema.tables) tx.changes
     changes_there = all_there o.schema tx.writes (shard_rows o run s) tx.changes pending_here.typed pending_here.made
 
-    tested : (entries stored' : ℕ) → entries ≡ length (entries_on s.slot seat.seen) → stored' ≡ length c.stored.items
+    tested : (entries stored' : ℕ) → entries ≡ length (entries_on s.slot seat.seen) → stored' ≡ count_of c.stored.log
         → has_room_for c.limits entries stored' (row_count c.store.rows) tx.changes
         ≡ has_room_for most (length (entries_on s.slot run)) (length (stored_on s.slot run)) (row_count (shard_rows o run s)) tx.changes
     tested entries stored' es ss =
@@ -81,12 +82,12 @@ module _ (o : Opening) (most : Limits) (seat : SeatView Entry) (c : Contents) (i
         ∙ ap (λ (n : ℕ). has_room_for most (length (entries_on s.slot run)) (length (stored_on s.slot run)) n tx.changes)
         (commits.counted o most seat c is clear.serving run legal alone)
 
-    pub has_room : (entries stored' : ℕ) → entries ≡ length (entries_on s.slot seat.seen) → stored' ≡ length c.stored.items
+    pub has_room : (entries stored' : ℕ) → entries ≡ length (entries_on s.slot seat.seen) → stored' ≡ count_of c.stored.log
         → has_room_for c.limits entries stored' (row_count c.store.rows) tx.changes ≡ true → HasRoom o most s run tx.changes
     has_room entries stored' es ss h =
         room_for o.schema most o s run tx.writes tx.changes pending_here.made written_there (sym (tested entries stored' es ss) ∙ h)
 
-    pub refused : (entries stored' : ℕ) (e : Refusal) → entries ≡ length (entries_on s.slot seat.seen) → stored' ≡ length c.stored.items
+    pub refused : (entries stored' : ℕ) (e : Refusal) → entries ≡ length (entries_on s.slot seat.seen) → stored' ≡ count_of c.stored.log
         → IsAllUnprepared c.limits entries stored' (row_count c.store.rows) tx.changes e → IsCommitAllRefusal o most s run tx e
     refused entries stored' _ es ss (t.no_memory) = refusals.no_memory
     refused entries stored' _ es ss (t.full h) =

@@ -42,7 +42,9 @@ use Rattle.shard_contents.proofs.Commits as commits
 use Rattle.shard.proofs.CommitsIn as k
 use Rattle.shard.proofs.Inside.{change_same}
 use Rattle.shard_contents.proofs.Legality.{legal_is}
+use Rattle.shard_contents.specs.inner.StoredLogs.{count_of}
 use Rattle.shard_contents.proofs.KeptStored.{length-kept}
+use Rattle.shard_contents.proofs.StoredLogs.{count_is}
 use Rattle.shard.proofs.Pendings as then
 use Rattle.shard.proofs.SourceSums.{sources_summed}
 
@@ -113,9 +115,9 @@ module _ (o : Opening) (most : Limits) (seat : SeatView Entry) (c : Contents) (i
       let most_rows = is.most_rows in
       omega (arith, within, most_rows)
 
-  pub stored_is : length c.stored.items ≡ length (stored_on s.slot v.seen)
+  pub stored_is : count_of c.stored.log ≡ length (stored_on s.slot v.seen)
   stored_is =
-      ap length (commits.has o most seat c is clear.serving).stored ∙ length-kept c.shard.slot seat.seen ∙ ap (λ (u : ShardRecord). length (stored_on u.slot seat.seen)) shard_is
+      count_is _ _ (commits.has o most seat c is clear.serving).stored ∙ length-kept c.shard.slot seat.seen ∙ ap (λ (u : ShardRecord). length (stored_on u.slot seat.seen)) shard_is
       ∙ ap (λ (r : Run). length (stored_on s.slot r)) seen_is
 
   -- what a query gives over those with the seat it may give over those of the run
@@ -152,7 +154,7 @@ module _ (o : Opening) (most : Limits) (seat : SeatView Entry) (c : Contents) (i
 
   pub written : (changes : List RowChange) → changes ≡ tx.changes → (schema : VSchema) → schema ≡ o.schema → (w : Write) (more own : List RowChange) → own ≡ more
       → changes_of schema w (all_applied changes c.store.rows) ≡ Ok more → (table stored count : ℕ) (now : PendingView) → table ≡ written_table w
-      → stored ≡ length c.stored.items → count ≡ length more
+      → stored ≡ count_of c.stored.log → count ≡ length more
       → now ≡ record { touched = touched_with tx.touched (record { table = table; stored = stored }); writes = tx.writes ++ w ∷ []; changes = tx.changes ++ own }
       → HasWrittenIn o s tx v.seen w count now
   written changes is schema e w more own owns h table stored count now tables' stored' counts kept = record {

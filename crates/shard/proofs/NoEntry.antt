@@ -1,5 +1,6 @@
 -- A target of which nothing is stored, and that has no step, has no entry.
 use Rattle.std.proofs.Common.{◌≡◌, ℕ, Bool, true, false, cond, List, [], ◌∷◌, ◌++◌, ◌&&◌, map, length, refl, sym, ap, subst, ◌∙◌}
+use Rattle.std.proofs.lemmas.List.{nil_from_length}
 use Rattle.journal.specs.Views.{SeatView}
 use Rattle.shard_run.specs.declared.Mode.{Mode}
 use Rattle.shard_run.specs.declared.Mode.TheVariants.{Following, Serving, Frozen, Retired}
@@ -11,9 +12,11 @@ use Rattle.shard_law.specs.declared.limits.Limits.{Limits}
 use Rattle.shard_contents.specs.declared.contents.Contents.{Contents}
 use Rattle.shard_contents.specs.Progress.{steps_of, steps_on}
 use Rattle.shard_contents.specs.Kept.{kept_from}
-use Rattle.shard_contents.specs.KeptEntries.{kept_of}
+use Rattle.shard_contents.specs.KeptEntries.{kept_of, entries_kept}
+use Rattle.shard_contents.specs.inner.StoredLogs.{count_of}
 use Rattle.shard_contents.proofs.Kept.{kept_none}
 use Rattle.shard_contents.proofs.KeptStored.{none_kept}
+use Rattle.shard_contents.proofs.StoredLogs.{count_is}
 use Rattle.shard_law.specs.Entries.{ShardView}
 use Rattle.shard_contents.specs.Shards.{Holds, Keeps, holds, dropped, IsAfter}
 
@@ -82,12 +85,13 @@ first_follows false is = refl
 first_follows true is = absurd (cc is)
 
 module _ (o : Opening) (most : Limits) (seat : SeatView Entry) (c : Contents) (v : ShardView) (after : IsAfter o most seat c)
-    (view : record { seen = seat.seen; shard = c.shard } ≡ v) (follows : c.mode ≡ Following) (stored : c.stored.items ≡ []) (steps : c.steps.items ≡ []) where
+    (view : record { seen = seat.seen; shard = c.shard } ≡ v) (follows : c.mode ≡ Following) (stored : count_of c.stored.log ≡ 0) (steps : c.steps.items ≡ []) where
   fresh_here : entries_on c.shard.slot seat.seen ≡ []
   fresh_here =
       let h = still_holds o most seat.seen c after.keeps follows in
       no_entry (cond (is_opening o c.shard.slot) Serving Following) c.shard.slot seat.seen (sym h.mode ∙ follows)
-      (kept_none (steps_on c.shard.slot seat.seen) (sym h.steps ∙ steps)) (none_kept (stored_on c.shard.slot seat.seen) (sym h.stored ∙ stored))
+      (kept_none (steps_on c.shard.slot seat.seen) (sym h.steps ∙ steps)) (none_kept (stored_on c.shard.slot seat.seen)
+      (nil_from_length (entries_kept c.shard.slot seat.seen) (sym (count_is c.stored.log (entries_kept c.shard.slot seat.seen) h.stored) ∙ stored)))
 
   pub fresh : entries_on v.shard.slot v.seen ≡ []
   fresh = subst (λ (v : ShardView). entries_on v.shard.slot v.seen ≡ []) view fresh_here
@@ -130,8 +134,8 @@ module _ (o : Opening) (most : Limits) (seat : SeatView Entry) (c : Contents) (v
   pub follows : c.mode ≡ Following
   follows = kept.mode ∙ follows_here
 
-  pub nothing_stored : length c.stored.items ≡ 0
-  nothing_stored = ap length (kept.stored ∙ ap (map kept_of) (none_stored c.shard.slot seat.seen none_here))
+  pub nothing_stored : count_of c.stored.log ≡ 0
+  nothing_stored = count_is _ _ kept.stored ∙ ap length (ap (map kept_of) (none_stored c.shard.slot seat.seen none_here))
 
   pub no_step : length c.steps.items ≡ 0
   no_step = ap length (kept.steps ∙ ap (λ (l : Run). kept_from [] (Rattle.std.specs.Prelude.flat_map (λ e. steps_of e.event) l)) none_here)

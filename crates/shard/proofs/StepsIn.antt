@@ -20,6 +20,7 @@ use Rattle.shard_contents.specs.Shards.{IsAfter}
 use Rattle.shard_contents.specs.KeptEntries.{kept_of}
 use Rattle.shard_contents.specs.Transactions.{PendingView, IsClear, IsPendingOf, entry_of, IsCommitAllRefusal, HasCommittedAll}
 use Rattle.shard_contents.specs.inner.Transactions.{has_room_for, IsAllUnprepared}
+use Rattle.shard_contents.specs.inner.StoredLogs.{count_of, HasStoredNext}
 use Rattle.shard_contents.proofs.Commits as commits
 use Rattle.shard.proofs.CommitsIn as k
 use Rattle.shard_contents.proofs.Looks as looks
@@ -79,9 +80,9 @@ module _ (o : Opening) (most : Limits) (seat : SeatView Entry) (c : Contents) (i
   within = (commits.has o most seat c is clear.serving).within (ap answers_queries clear.serving)
 
   pub refused : (entries : ℕ) (e : Refusal) → entries ≡ length (entries_on s.slot v.seen)
-      → IsAllUnprepared c.limits entries (length c.stored.items) (row_count c.store.rows) tx.changes e → IsCommitAllRefusal o most s looked.seen tx e
+      → IsAllUnprepared c.limits entries (count_of c.stored.log) (row_count c.store.rows) tx.changes e → IsCommitAllRefusal o most s looked.seen tx e
   refused entries e es why =
-      let h = k.refused o most seat c is p tx clear tied prior seat.seen legal_seen (prefix_self seat.seen) refl entries (length c.stored.items) e (entries_are entries es)
+      let h = k.refused o most seat c is p tx clear tied prior seat.seen legal_seen (prefix_self seat.seen) refl entries (count_of c.stored.log) e (entries_are entries es)
       refl why in
       subst (λ (u : ShardRecord). IsCommitAllRefusal o most u looked.seen tx e) shard_is
       (subst (λ (r : Run). IsCommitAllRefusal o most c.shard r tx e) (seen_is ∙ sym looked_seen) h)
@@ -101,13 +102,13 @@ module _ (o : Opening) (most : Limits) (seat : SeatView Entry) (c : Contents) (i
     pub left : (first : Run) → IsPrefix first v.seen → (e : Entry) → e ≡ entry_of c.shard session number tx.writes tx.changes → number ≡ p.statements
         → (seat' : SeatView Entry) (now : PassView Entry) (c' : Contents) → seat'.seen ≡ run ++ e ∷ [] → seat' ≡ record seat { seen = seat'.seen }
         → now ≡ record looked { seen = seat'.seen } → IsLegal (MayFollow o) seat'.seen → (entries : ℕ) → entries ≡ length (entries_on s.slot v.seen)
-        → has_room_for c.limits entries (length c.stored.items) (row_count c.store.rows) tx.changes ≡ true → c'.shard ≡ c.shard
-        → SameRows c'.store.rows (all_applied tx.changes c.store.rows) → c'.stored.items ≡ c.stored.items ++ kept_of e ∷ [] → c'.steps.items ≡ c.steps.items
+        → has_room_for c.limits entries (count_of c.stored.log) (row_count c.store.rows) tx.changes ≡ true → c'.shard ≡ c.shard
+        → SameRows c'.store.rows (all_applied tx.changes c.store.rows) → HasStoredNext c.stored.log (kept_of e) c'.stored.log → c'.steps.items ≡ c.steps.items
         → c'.mode ≡ c.mode → c'.limits ≡ c.limits → Left o most s seat' c' p tx now first
     left first before e e_is numbered seat' now c' seen seat_now now_is legal entries es fits shard_same rows stored came mode limits =
         let ends : seat'.seen ≡ run ++ entry_of c.shard session number tx.writes tx.changes ∷ [] = seen ∙ ap (λ (x : Entry). run ++ x ∷ []) e_is in
         let now_seen : now.seen ≡ seat'.seen = ap (λ (x : PassView Entry). x.seen) now_is in
-        let has = k.has_room o most seat c is p tx clear tied prior run next.legal next.seat next.alone entries (length c.stored.items) (entries_are entries es) refl fits in
+        let has = k.has_room o most seat c is p tx clear tied prior run next.legal next.seat next.alone entries (count_of c.stored.log) (entries_are entries es) refl fits in
         record {
           committed =
               subst (λ (u : ShardRecord). HasCommittedAll o most u p tx now) shard_is
@@ -127,7 +128,7 @@ module _ (o : Opening) (most : Limits) (seat : SeatView Entry) (c : Contents) (i
               });
           is_now =
               commits.after o most seat c is clear.serving run next.legal next.alone seat' c' session number tx.writes tx.changes
-              (ap (λ (x : SeatView Entry). x.slot) seat_now) ends has shard_same rows (stored ∙ ap (λ (x : Entry). c.stored.items ++ kept_of x ∷ []) e_is) came mode limits;
+              (ap (λ (x : SeatView Entry). x.slot) seat_now) ends has shard_same rows (subst (λ (x : Entry). HasStoredNext c.stored.log (kept_of x) c'.stored.log) e_is stored) came mode limits;
           serves_now =
               commits.still_serves o most seat c is clear.serving run next.legal next.alone seat' c' session number tx.writes tx.changes ends shard_same;
           begins =

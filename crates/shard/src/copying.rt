@@ -257,7 +257,7 @@ impl<W: World, J: Naming> ShardState<W, J> {
     }
 
     /// What the entry that the shard has stored at a position, counted from 0, changes in a target's place. None if it hasn't stored so
-    /// many. Refuses for want of memory.
+    /// many. Refuses for want of memory, and if the entry was stored before the shard was copied from, since it isn't kept then.
     pub fn entry_for(
         &self,
         alloc: Global,
@@ -272,11 +272,14 @@ impl<W: World, J: Naming> ShardState<W, J> {
             (λ f. (f.log_position ≡ at) × IsEntryFor W.opening self.now.seen self.now.shard.slot place.now f)) }
         ensures err { IfErr result (λ e. e ≡ Refusal.OutOfMemory) }
     {
-        let stored = self.contents.stored.as_slice();
+        let stored = &self.contents.stored;
         if at >= stored.len() as u64 {
             return Ok(None);
         }
-        let entry = &stored[at as usize];
+        // No target meets this: the shard keeps its entries from the target's first Copy on, and the target stands at that or after it.
+        let Some(entry) = stored.get(at as usize) else {
+            return Err(Refusal::OutOfMemory);
+        };
         let changes = restricted_changes(alloc, schema, place, entry.changes())?;
         Ok(Some(Follow {
             source: self.slot(),
@@ -287,7 +290,8 @@ impl<W: World, J: Naming> ShardState<W, J> {
 
     /// The next rows of a table for a target, as a shard that serves has them: of those that lie in the target's place after the last row
     /// there, the first 100 by primary key. A table that isn't stored in the order of its primary key is sorted at its first step, which
-    /// takes as long as that, and kept in that order until its last. Refuses for want of memory.
+    /// takes as long as that, and kept in that order until its last. From then on the shard keeps what its entries change. Refuses for want
+    /// of memory.
     pub fn rows_to_copy(
         &mut self,
         alloc: Global,
@@ -307,6 +311,8 @@ impl<W: World, J: Naming> ShardState<W, J> {
         let source = self.slot();
         let stored = self.stored();
         let table = &schema.tables.as_slice()[next.table];
+        // the target asks for the entries that come after these rows
+        self.contents.stored.follow();
         let rows = self
             .contents
             .first_wanted(alloc, &mut self.sorted, place, table, next)?;

@@ -1,6 +1,7 @@
 //! A retired shard gives up its rows.
 ghost use Rattle.std.specs.Prelude.{◌≡◌, []};
 ghost use Rattle.shard_run.specs.Runs.{mode};
+ghost use Rattle.shard_contents.specs.inner.StoredLogs.{nothing_stored};
 
 use crate::state::ShardState;
 use crate::world::World;
@@ -12,7 +13,7 @@ use shard_store::StoredTables;
 // Nothing is left of what the shard held. Takes no memory.
 fn empty(contents: &mut Contents)
     ensures rows { contents.new.store.rows ≡ [] }
-    ensures stored { contents.new.stored.items ≡ [] }
+    ensures stored { contents.new.stored.log ≡ nothing_stored }
     ensures mode { contents.new.mode ≡ Mode.Dropped }
     ensures shard { contents.new.shard ≡ contents.old.shard }
     ensures limits { contents.new.limits ≡ contents.old.limits }

@@ -64,7 +64,7 @@ impl<W: World, J: Naming> Model for ShardState<W, J> {
 
     // What it holds is what the run that it has seen leaves on it, and the tables in order had their rows when they say.
     ghost invariant = { λ s. IsAfter W.opening W.limits s.seat s.contents × RetiredFor W.opening s.seat.seen s.contents.shard s.targets
-        × AllHadRows s.contents.stored.items s.contents.store.rows s.sorted };
+        × AllHadRows s.contents.stored.log s.contents.store.rows s.sorted };
 }
 
 fn serves(mode: Mode) -> bool
@@ -95,7 +95,7 @@ pub(crate) fn append_event<W: World, J: Naming>(
     ensures seat { seat.new ≡ record seat.old { seen = seat.new.seen } }
     ensures pass { pass.new ≡ record pass.old { seen = seat.new.seen } }
     ensures shard { contents.new.shard ≡ contents.old.shard }
-    ensures stored { contents.new.stored.items ≡ contents.old.stored.items }
+    ensures stored { contents.new.stored.log ≡ contents.old.stored.log }
     ensures rows { contents.new.store.rows ≡ contents.old.store.rows }
     ensures now { mode W.opening seat.new.seen contents.new.shard.slot ≡ next }
 {

@@ -36,11 +36,12 @@ any_push p xs x = list_any-append p xs (x ∷ []) ∙ ap (λ (b : Bool). list_an
 -- ---- the changes of one entry
 
 -- one more of them is noted
-pub note_next : (changes : List RowChange) (i : ℕ) (c : RowChange) (last old : List ℕ) (count n : ℕ) → i < length changes → c ≡ get_or changes i c
-    → changed_table c < length last → last_change last n ≡ (if keeps_table n (take i changes) then count else last_change old n)
-    → last_change (set last (changed_table c) count) n ≡ (if keeps_table n (take (i + 1) changes) then count else last_change old n)
-note_next changes i c last old count n within is there before =
-    last_set last (changed_table c) count n there
+pub note_next : (changes : List RowChange) (i : ℕ) (c : RowChange) (last now old : List ℕ) (count n : ℕ) → i < length changes → c ≡ get_or changes i c
+    → last_change now n ≡ (if changed_table c == n then count else last_change last n)
+    → last_change last n ≡ (if keeps_table n (take i changes) then count else last_change old n)
+    → last_change now n ≡ (if keeps_table n (take (i + 1) changes) then count else last_change old n)
+note_next changes i c last now old count n within is noted before =
+    noted
     ∙ ap (λ (k : ℕ). if changed_table c == n then count else k) before
     ∙ by (keeps_table n (take i changes)) (changed_table c == n)
     ∙ ap (λ (b : Bool). if b then count else last_change old n)
@@ -81,8 +82,3 @@ tell_next entries e last now tell noted t = by (cases_lt (length entries) t.stor
         one : (b : Bool) → (nat_lt t.stored (last_change last t.table) || b) ≡ nat_lt t.stored (if b then length entries + 1 else last_change last t.table)
         one true = or_true (nat_lt t.stored (last_change last t.table)) ∙ sym (lt-ltb t.stored (length entries + 1) (omega (arith, within)))
         one false = or_false (nat_lt t.stored (last_change last t.table))
-
--- another list that tells as much
-pub tell_same : (entries : List (List RowChange)) (last now : List ℕ) → TellLastChanges entries last → ((n : ℕ) → last_change now n ≡ last_change last n)
-    → TellLastChanges entries now
-tell_same entries last now tell same t = tell t ∙ ap (nat_lt t.stored) (sym (same t.table))

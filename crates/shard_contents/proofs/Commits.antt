@@ -44,6 +44,8 @@ use Rattle.shard_contents.proofs.Progress.{steps-push}
 use Rattle.shard_contents.proofs.Bags.{same_through, length-same, row_count-same, all_applied-same}
 use Rattle.shard_contents.specs.KeptEntries.{kept_of, entries_kept}
 use Rattle.shard_contents.proofs.KeptStored.{length-kept, kept_push}
+use Rattle.shard_contents.specs.inner.StoredLogs.{count_of, HasStored, HasStoredNext}
+use Rattle.shard_contents.proofs.StoredLogs.{count_is, same_log, stored_next}
 use Rattle.shard_contents.proofs.States.{held-same, mode-same, stored-same, holds_of, lives_if, entries-on}
 use Rattle.shard_contents.proofs.Legality.{stands-same, stands-next, part_held}
 use Rattle.shard_contents.proofs.Places.{rows_lie, changes_in}
@@ -154,13 +156,13 @@ module _ (o : Opening) (most : Limits) (seat : SeatView Entry) (c : Contents) (i
 
     -- ---- the limits
 
-    pub stored_here : c.stored.items ≡ entries_kept s.slot run
-    stored_here = has.stored ∙ ap (map kept_of) (sym (stored-same o seat.seen run s here))
+    pub stored_here : HasStored c.stored.log (entries_kept s.slot run)
+    stored_here = same_log _ _ _ _ refl (ap (map kept_of) (sym (stored-same o seat.seen run s here))) has.stored
 
-    pub count_here : length c.stored.items ≡ length (stored_on s.slot run)
-    count_here = ap length stored_here ∙ length-kept s.slot run
+    pub count_here : count_of c.stored.log ≡ length (stored_on s.slot run)
+    count_here = count_is _ _ stored_here ∙ length-kept s.slot run
 
-    tested : (entries stored : ℕ) (w : Write) → entries ≡ length (entries_on seat.slot seat.seen) → stored ≡ length c.stored.items
+    tested : (entries stored : ℕ) (w : Write) → entries ≡ length (entries_on seat.slot seat.seen) → stored ≡ count_of c.stored.log
         → has_room c.limits entries stored (row_count c.store.rows) w
         ≡ has_room most (length (entries_on s.slot run)) (length (stored_on s.slot run)) (row_count (shard_rows o run s)) w
     tested entries stored w es ss =
@@ -177,7 +179,7 @@ module _ (o : Opening) (most : Limits) (seat : SeatView Entry) (c : Contents) (i
     there_held w typed = let h = there w typed in let l = length-same c.store.rows (shard_rows o run s) rows in omega (arith, h, l)
 
     pub has_room_now : (entries stored : ℕ) (w : Write) (changes : List RowChange) → entries ≡ length (entries_on seat.slot seat.seen)
-        → stored ≡ length c.stored.items → IsTypedWrite schema w → changes_of schema w c.store.rows ≡ Ok changes
+        → stored ≡ count_of c.stored.log → IsTypedWrite schema w → changes_of schema w c.store.rows ≡ Ok changes
         → has_room c.limits entries stored (row_count c.store.rows) w ≡ true → HasRoom o most s run changes
     has_room_now entries stored w changes es ss typed changed h =
         room_from schema most o s run w changes c.store.rows rows changed (there w typed) (sym (tested entries stored w es ss) ∙ h)
@@ -185,7 +187,7 @@ module _ (o : Opening) (most : Limits) (seat : SeatView Entry) (c : Contents) (i
     -- ---- the refusals
 
     pub refused : (v : VSchema) (entries stored : ℕ) (w : Write) (r : Refusal) → v ≡ schema → entries ≡ length (entries_on seat.slot seat.seen)
-        → stored ≡ length c.stored.items → IsTypedWrite schema w → IsUnprepared v c.limits entries stored c.store.rows w r
+        → stored ≡ count_of c.stored.log → IsTypedWrite schema w → IsUnprepared v c.limits entries stored c.store.rows w r
         → IsCommitRefusal o most s run w r
     refused v entries stored w r vs es ss typed (commits.no_memory) = refusals.no_memory
     refused v entries stored w r vs es ss typed (commits.duplicate e) =
@@ -236,7 +238,7 @@ module _ (o : Opening) (most : Limits) (seat : SeatView Entry) (c : Contents) (i
     pub after : (seat' : SeatView Entry) (c' : Contents) (session number : ℕ) (writes : List Write) (changes : List RowChange)
         → seat'.slot ≡ seat.slot → seat'.seen ≡ run ++ entry_of s session number writes changes ∷ [] → HasRoom o most s run changes
         → c'.shard ≡ s → SameRows c'.store.rows (all_applied changes c.store.rows)
-        → c'.stored.items ≡ c.stored.items ++ changes ∷ [] → c'.steps.items ≡ c.steps.items → c'.mode ≡ c.mode → c'.limits ≡ c.limits
+        → HasStoredNext c.stored.log changes c'.stored.log → c'.steps.items ≡ c.steps.items → c'.mode ≡ c.mode → c'.limits ≡ c.limits
         → IsAfter o most seat' c'
     after seat' c' session number writes changes slots seen room shard_is rows_are stored_are came mode_is limits_are =
         let e : Entry = entry_of s session number writes changes in
@@ -261,8 +263,10 @@ module _ (o : Opening) (most : Limits) (seat : SeatView Entry) (c : Contents) (i
                 mode_is ∙ has.mode ∙ serving ∙ sym still ∙ ap (λ (t : ShardRecord). mode o (run ++ e ∷ []) t.slot) (sym shard_is)
                 ∙ ap (λ r. mode o r c'.shard.slot) (sym seen);
             stored =
-                stored_are ∙ ap (λ (l : List (List RowChange)). l ++ changes ∷ []) stored_here ∙ sym (kept_push run e s.slot logged)
-                ∙ ap (λ (t : ShardRecord). entries_kept t.slot (run ++ e ∷ [])) (sym shard_is) ∙ ap (entries_kept c'.shard.slot) (sym seen);
+                same_log _ _ _ _ refl
+                (sym (kept_push run e s.slot logged) ∙ ap (λ (t : ShardRecord). entries_kept t.slot (run ++ e ∷ [])) (sym shard_is)
+                ∙ ap (entries_kept c'.shard.slot) (sym seen))
+                (stored_next c.stored.log c'.stored.log (entries_kept s.slot run) changes stored_here stored_are);
             steps =
                 came ∙ has.steps ∙ ap (kept_from []) (ap (flat_map (λ (x : Entry). steps_of x.event)) (sym here) ∙ sym (steps-push run e s.slot on ∙ append-nil (steps_on s.slot run)))
                 ∙ ap (λ (t : ShardRecord). kept_on t.slot (run ++ e ∷ [])) (sym shard_is) ∙ ap (λ r. kept_on c'.shard.slot r) (sym seen);

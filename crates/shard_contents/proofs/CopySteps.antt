@@ -65,6 +65,7 @@ use Rattle.shard_contents.proofs.Positions.{position-same, copied_all-same, any_
 use Rattle.shard_contents.proofs.Kept.{kept-push}
 use Rattle.shard_contents.proofs.KeptStored.{kept_at}
 use Rattle.shard_contents.proofs.Progress.{steps-push}
+use Rattle.shard_contents.proofs.StoredLogs.{same_log, kept_at_its_place}
 use Rattle.shard_contents.proofs.States.{held-same, stored-same, holds_of, entries-on, alone_here, lives_if}
 use Rattle.shard_contents.proofs.Tables.{stored_there, there_from}
 
@@ -205,16 +206,18 @@ dropped_next p xs i x there is fails =
 
 -- ---- what a source has
 
--- what a state keeps of its stored entries
+-- what a state still has of its stored entries
 pub entry_told : (o : Opening) (most : Limits) (seen : Run) (c : Contents) (v : ShardView) → Keeps o most seen c → record { seen = seen; shard = c.shard } ≡ v
-    → (mode o v.seen v.shard.slot ≡ Rattle.shard_run.specs.declared.Mode.TheVariants.Retired → ⊥) → (items : List (List RowChange)) → items ≡ c.stored.items
-    → (at : ℕ) (changes : List RowChange) → at < length items → changes ≡ get_or items at changes
+    → (mode o v.seen v.shard.slot ≡ Rattle.shard_run.specs.declared.Mode.TheVariants.Retired → ⊥) → (at : ℕ) (changes : List RowChange)
+    → (c.stored.log.first ≤ at) × (slice_get c.stored.log.kept (at - c.stored.log.first) ≡ Some changes)
     → (e : Entry) × (slice_get (stored_on v.shard.slot v.seen) at ≡ Some e) × (kept_of e ≡ changes)
-entry_told o most seen c v keeps view lives items items_are at changes there is =
+entry_told o most seen c v keeps view lives at changes (from, is) =
     let has = holds_of o most seen c keeps (λ retired. lives (ap (λ (x : ShardView). mode o x.seen x.shard.slot) (sym view) ∙ retired)) in
-    let here : items ≡ entries_kept v.shard.slot v.seen = items_are ∙ has.stored ∙ ap (λ (x : ShardView). entries_kept x.shard.slot x.seen) view in
-    kept_at (stored_on v.shard.slot v.seen) at changes (subst (λ (l : List (List RowChange)). at < length l) here there)
-    (is ∙ ap (λ (l : List (List RowChange)). get_or l at changes) here)
+    let log = c.stored.log in
+    let h = kept_at_its_place (entries_kept c.shard.slot seen) log.first at changes from
+    (ap (λ (l : List (List RowChange)). slice_get l (at - log.first)) (sym has.stored.kept) ∙ is) in
+    subst (λ (x : ShardView). (e : Entry) × (slice_get (stored_on x.shard.slot x.seen) at ≡ Some e) × (kept_of e ≡ changes)) view
+    (kept_at (stored_on c.shard.slot seen) at changes h.0 h.1)
 
 pub table_is : (schema : VSchema) (items : List Table) → items ≡ schema.tables → (n : ℕ) (t : Table) → n < length items → t ≡ get_or items n t
     → t ≡ table_at schema n
@@ -371,7 +374,7 @@ module _ (o : Opening) (most : Limits) (seat : SeatView Entry) (c : Contents) (i
   came = Copied taken.source taken.table taken.log_position (is_last taken) (last_row taken.rows)
 
   pub after_copy : (seat' : SeatView Entry) (c' : Contents) → seat'.seen ≡ run ++ e ∷ [] → seat'.slot ≡ seat.slot → c'.shard ≡ s
-      → SameRows c'.store.rows (all_applied changes c.store.rows) → c'.mode ≡ c.mode → c'.stored.items ≡ c.stored.items → c'.steps.items ≡ keep came c.steps.items
+      → SameRows c'.store.rows (all_applied changes c.store.rows) → c'.mode ≡ c.mode → c'.stored.log ≡ c.stored.log → c'.steps.items ≡ keep came c.steps.items
       → c'.limits ≡ c.limits → length (entries_on s.slot seat.seen) < 2 ^ 40 → IsAfter o most seat' c'
   after_copy seat' c' seen at shard_is rows modes stores steps_are limits_are room =
       let now : SameRows c'.store.rows (shard_rows o (run ++ e ∷ []) s) =
@@ -391,8 +394,9 @@ module _ (o : Opening) (most : Limits) (seat : SeatView Entry) (c : Contents) (i
               modes ∙ held_before.mode ∙ following ∙ sym mode_copies ∙ ap (λ (t : ShardRecord). mode o (run ++ e ∷ []) t.slot) (sym shard_is)
               ∙ ap (λ r. mode o r c'.shard.slot) (sym seen);
           stored =
-              stores ∙ held_before.stored ∙ ap (map kept_of) (sym stored_now) ∙ ap (λ (t : ShardRecord). entries_kept t.slot (run ++ e ∷ [])) (sym shard_is)
-              ∙ ap (entries_kept c'.shard.slot) (sym seen);
+              same_log _ _ _ _ stores
+              (ap (map kept_of) (sym stored_now) ∙ ap (λ (t : ShardRecord). entries_kept t.slot (run ++ e ∷ [])) (sym shard_is)
+              ∙ ap (entries_kept c'.shard.slot) (sym seen)) held_before.stored;
           steps =
               steps_are ∙ ap (keep came) (held_before.steps ∙ ap (λ (es : List Entry). kept_from [] (flat_map (λ (x : Entry). steps_of x.event) es)) (sym same_on))
               ∙ sym (kept-push [] (steps_on s.slot run) came) ∙ ap (kept_from []) (sym (steps-push run e s.slot on)) ∙ ap (λ (t : ShardRecord). kept_on t.slot (run ++ e ∷ [])) (sym shard_is)

@@ -1,9 +1,9 @@
 -- Tables as they were when a shard had stored so many entries: through its changes, and brought forward by them.
-use Rattle.std.proofs.Common.{◌≡◌, ℕ, zero, suc, ◌+◌, ◌<◌, ◌≤◌, Bool, List, [], ◌∷◌, ◌++◌, length, take, drop, get_or, filter, refl, sym, ap, ◌∙◌, subst, arith, IsPermutation, length-append}
+use Rattle.std.proofs.Common.{◌≡◌, ℕ, zero, suc, ◌+◌, ◌-◌, ◌<◌, ◌≤◌, Bool, true, List, [], ◌∷◌, ◌++◌, length, take, drop, get_or, filter, refl, sym, ap, ◌∙◌, subst, arith, IsPermutation, length-append}
 use Rattle.std.specs.List.{AllByRecursion, remove}
 use Rattle.std.proofs.lemmas.Bool.{eq-eqb, ne_eqb}
 use Rattle.std.proofs.lemmas.Grind.{flat_map-append}
-use Rattle.std.proofs.lemmas.List.{append-nil, take_more, drop-append-le}
+use Rattle.std.proofs.lemmas.List.{append-nil, take_more, drop-append-le, drop_all}
 use Rattle.std.proofs.lemmas.List.Sorted.{IsPermutation-trans, IsPermutation-append_left}
 use Rattle.sql_eval.proofs.ChangeLemmas.{rows-same}
 use Rattle.sql_eval.proofs.Permutations.{IsPermutation-filter}
@@ -15,9 +15,11 @@ use Rattle.vschema.specs.Database.{Database, SameRows, rows_of, without, all_app
 use Rattle.shard_law.proofs.Databases.{length-all_applied}
 use Rattle.shard_contents.specs.inner.Placed.{AreFirst}
 use Rattle.shard_contents.specs.inner.Stores.{row_after}
+use Rattle.shard_contents.specs.inner.StoredLogs.{StoredLog, count_of, stored_since, HasStoredNext}
 use Rattle.shard_contents.specs.inner.Earlier.{EarlierTable, changes_by, HadRows, AllHadRows, IsCurrentTable}
 use Rattle.shard_contents.proofs.Bags.{same_self, same_back, same_through, length-same, all_applied-same}
 use Rattle.shard_contents.proofs.Commits.{applied-append}
+use Rattle.shard_contents.proofs.StoredLogs.{first_next, kept_next}
 use Rattle.shard_contents.proofs.OneTable.{next_here, next_other}
 
 take-all : {X : Type 0} (xs : List X) (i : ℕ) → length xs ≤ i → take i xs ≡ xs
@@ -79,18 +81,26 @@ entry_next entries i e db within is =
 
 -- ---- kept tables, while entries are stored
 
-had_next : (stored : List (List RowChange)) (e : List RowChange) (now later : Database) (t : EarlierTable) → SameRows later (all_applied e now)
-    → HadRows stored now t → HadRows (stored ++ e ∷ []) later t
-had_next stored e now later t after h =
-    let since : List RowChange = changes_by (drop t.stored stored) in
-    let front : drop t.stored (stored ++ e ∷ []) ≡ drop t.stored stored ++ e ∷ [] = drop-append-le t.stored stored (e ∷ []) h.within in
-    let all : all_applied (changes_by (drop t.stored (stored ++ e ∷ []))) h.db ≡ all_applied e (all_applied since h.db) =
+had_next : (log next : StoredLog) (e : List RowChange) (now later : Database) (t : EarlierTable) → SameRows later (all_applied e now)
+    → HasStoredNext log e next → HadRows log now t → HadRows next later t
+had_next log next e now later t after one h =
+    let since : List RowChange = changes_by (stored_since log t.stored) in
+    let first = first_next log next e one h.is_followed in
+    let kept = kept_next log next e one h.is_followed in
+    let there = h.there in
+    let within = h.within in
+    let low : t.stored - log.first ≤ length log.kept = omega (arith, there, within) in
+    let front : stored_since next t.stored ≡ stored_since log t.stored ++ e ∷ [] =
+    ap (λ (n : ℕ). drop (t.stored - n) next.kept) first ∙ ap (drop (t.stored - log.first)) kept ∙ drop-append-le (t.stored - log.first) log.kept (e ∷ []) low in
+    let all : all_applied (changes_by (stored_since next t.stored)) h.db ≡ all_applied e (all_applied since h.db) =
     ap (λ (l : List (List RowChange)). all_applied (changes_by l) h.db) front
     ∙ ap (λ (l : List RowChange). all_applied l h.db)
-    (flat_map-append (λ (x : List RowChange). x) (drop t.stored stored) (e ∷ []) ∙ ap (λ (l : List RowChange). since ++ l) (append-nil e))
+    (flat_map-append (λ (x : List RowChange). x) (stored_since log t.stored) (e ∷ []) ∙ ap (λ (l : List RowChange). since ++ l) (append-nil e))
     ∙ applied-append since e h.db in
     record {
-      within = let k = h.within in let l = length-append stored (e ∷ []) in omega (arith, k, l);
+      is_followed = one.is_followed ∙ h.is_followed;
+      there = omega (arith, first, there);
+      within = let k = ap length kept in let l = length-append log.kept (e ∷ []) in omega (arith, first, within, k, l);
       db = h.db;
       since =
           subst (λ (db : Database). SameRows db later) (sym all)
@@ -101,16 +111,28 @@ had_next stored e now later t after h =
     }
 
 -- one more stored entry, with what it changes
-pub all_had_next : (stored : List (List RowChange)) (e : List RowChange) (now later : Database) (tables : List EarlierTable)
-    → SameRows later (all_applied e now) → AllHadRows stored now tables → AllHadRows (stored ++ e ∷ []) later tables
-all_had_next stored e now later [] after h = tt
-all_had_next stored e now later (t ∷ tables) after h = (had_next stored e now later t after h.0, all_had_next stored e now later tables after h.1)
+pub all_had_next : (log next : StoredLog) (e : List RowChange) (now later : Database) (tables : List EarlierTable)
+    → SameRows later (all_applied e now) → HasStoredNext log e next → AllHadRows log now tables → AllHadRows next later tables
+all_had_next log next e now later [] after one h = tt
+all_had_next log next e now later (t ∷ tables) after one h = (had_next log next e now later t after one h.0, all_had_next log next e now later tables after one h.1)
 
 -- nothing stored, and no row changed
-pub all_had_same : (stored stored' : List (List RowChange)) (now now' : Database) (tables : List EarlierTable) → stored' ≡ stored → now' ≡ now → AllHadRows stored now tables
-    → AllHadRows stored' now' tables
-all_had_same stored stored' now now' tables entries rows h =
-    subst (λ (l : List (List RowChange)). AllHadRows l now' tables) (sym entries) (subst (λ (db : Database). AllHadRows stored db tables) (sym rows) h)
+pub all_had_same : (log next : StoredLog) (now later : Database) (tables : List EarlierTable) → next ≡ log → later ≡ now → AllHadRows log now tables
+    → AllHadRows next later tables
+all_had_same log next now later tables logs rows h =
+    subst (λ (l : StoredLog). AllHadRows l later tables) (sym logs) (subst (λ (db : Database). AllHadRows log db tables) (sym rows) h)
+
+-- entries are kept from now on
+had_followed : (log : StoredLog) (now : Database) (tables : List EarlierTable) → AllHadRows log now tables → AllHadRows (record log { is_followed = true }) now tables
+had_followed log now [] h = tt
+had_followed log now (t ∷ tables) h = (
+  record { is_followed = refl; there = h.0.there; within = h.0.within; db = h.0.db; since = h.0.since; rows = h.0.rows },
+  had_followed log now tables h.1,
+)
+
+pub all_had_followed : (log next : StoredLog) (now : Database) (tables : List EarlierTable) → next ≡ record log { is_followed = true } → AllHadRows log now tables
+    → AllHadRows next now tables
+all_had_followed log next now tables is h = subst (λ (l : StoredLog). AllHadRows l now tables) (sym is) (had_followed log now tables h)
 
 -- ---- a table that is taken out, brought forward and put back
 
@@ -129,37 +151,35 @@ pub all-push : {X : Type 0} (P : X → Type 0) (xs : List X) (x : X) → AllByRe
 all-push P [] x h p = (p, tt)
 all-push P (y ∷ xs) x h p = (h.0, all-push P xs x h.1 p)
 
-drop_length : {X : Type 0} (xs : List X) → drop (length xs) xs ≡ []
-drop_length [] = refl
-drop_length (x ∷ xs) = drop_length xs
+pub had_now : (log : StoredLog) (now : Database) (n : ℕ) (t : EarlierTable) → log.is_followed ≡ true → IsCurrentTable n (count_of log) now t → HadRows log now t
+had_now log now n t follows h =
+    let k = h.stored in
+    let none : stored_since log t.stored ≡ [] = drop_all (t.stored - log.first) log.kept (omega (arith, k)) in
+    record {
+      is_followed = follows;
+      there = omega (arith, k);
+      within = omega (arith, k);
+      db = now;
+      since = subst (λ (l : List (List RowChange)). SameRows (all_applied (changes_by l) now) now) (sym none) (same_self now);
+      rows = subst (λ (m : ℕ). IsPermutation t.rows (rows_of now m)) (sym h.table) h.rows;
+    }
 
-pub had_now : (stored : List (List RowChange)) (now : Database) (n : ℕ) (t : EarlierTable) → IsCurrentTable n (length stored) now t → HadRows stored now t
-had_now stored now n t h = record {
-  within = let k = h.stored in omega (arith, k);
-  db = now;
-  since =
-      subst (λ (k : ℕ). SameRows (all_applied (changes_by (drop k stored)) now) now) (sym h.stored)
-      (subst (λ (l : List (List RowChange)). SameRows (all_applied (changes_by l) now) now) (sym (drop_length stored)) (same_self now));
-  rows = subst (λ (k : ℕ). IsPermutation t.rows (rows_of now k)) (sym h.table) h.rows;
-}
-
-pub has_now : (stored : List (List RowChange)) (now : Database) (n : ℕ) (old t : EarlierTable) → n < length now → old.table ≡ n → HadRows stored now old
-    → (items : List (List RowChange)) → items ≡ stored → t.table ≡ old.table → t.stored ≡ length items
+pub has_now : (log : StoredLog) (now : Database) (n : ℕ) (old t : EarlierTable) → n < length now → old.table ≡ n → HadRows log now old
+    → t.table ≡ old.table → t.stored ≡ count_of log
     → ((db : Database) → old.table < length db → IsPermutation old.rows (rows_of db old.table)
-    → IsPermutation t.rows (rows_of (all_applied (changes_by (drop old.stored items)) db) old.table))
-    → IsCurrentTable n (length stored) now t
-has_now stored now n old t there of h items items_are table entries forward =
-    let changes : List RowChange = changes_by (drop old.stored stored) in
+    → IsPermutation t.rows (rows_of (all_applied (changes_by (stored_since log old.stored)) db) old.table))
+    → IsCurrentTable n (count_of log) now t
+has_now log now n old t there of h table entries forward =
+    let changes : List RowChange = changes_by (stored_since log old.stored) in
     let same = length-same (all_applied changes h.db) now h.since in
     let long = length-all_applied changes h.db in
     record {
       table = table ∙ of;
-      stored = entries ∙ ap length items_are;
+      stored = entries;
       rows =
           subst (λ (k : ℕ). IsPermutation t.rows (rows_of now k)) of
           (IsPermutation-trans t.rows (rows_of (all_applied changes h.db) old.table) (rows_of now old.table)
-          (subst (λ (l : List (List RowChange)). IsPermutation t.rows (rows_of (all_applied (changes_by (drop old.stored l)) h.db) old.table)) items_are
-          (forward h.db (omega (arith, there, of, same, long)) h.rows))
+          (forward h.db (omega (arith, there, of, same, long)) h.rows)
           (rows-same (all_applied changes h.db) now h.since old.table));
     }
 
@@ -173,5 +193,5 @@ first_permuted t test rows all first h f = record {
 }
 
 -- no table is kept
-pub all_had_none : (stored : List (List RowChange)) (now : Database) (tables : List EarlierTable) → tables ≡ [] → AllHadRows stored now tables
-all_had_none stored now tables none = subst (AllHadRows stored now) (sym none) tt
+pub all_had_none : (log : StoredLog) (now : Database) (tables : List EarlierTable) → tables ≡ [] → AllHadRows log now tables
+all_had_none log now tables none = subst (AllHadRows log now) (sym none) tt

@@ -46,6 +46,8 @@ use Rattle.shard_contents.specs.Copying as limits
 use Rattle.shard_contents.specs.inner.Transactions.{has_room_for}
 use Rattle.shard_contents.proofs.StepRoom.{IsNoRoomFor, no_room_for, room_by_rows, at_least}
 use Rattle.shard_contents.proofs.Bags.{row_count-same, same_through, length-same, all_applied-same}
+use Rattle.shard_contents.specs.inner.StoredLogs.{count_of, HasStoredNext}
+use Rattle.shard_contents.proofs.StoredLogs.{count_is, same_log, stored_next}
 use Rattle.shard_contents.proofs.States.{held-same, stored-same, holds_of, entries-on, after_look, mode_after_look, alone_here}
 use Rattle.shard_contents.proofs.Modes.{here, stands_there, mode_there}
 
@@ -140,7 +142,7 @@ module _ (o : Opening) (most : Limits) (seat : SeatView Entry) (c : Contents) (i
   kept_now = ap (map kept_of) stored_now ∙ map-append kept_of (stored_on s.slot seat.seen) (e ∷ [])
 
   pub after_follow : (seat' : SeatView Entry) (c' : Contents) → seat'.seen ≡ run ++ e ∷ [] → seat'.slot ≡ seat.slot → c'.shard ≡ s
-      → SameRows c'.store.rows (all_applied f.changes c.store.rows) → c'.mode ≡ c.mode → c'.stored.items ≡ c.stored.items ++ f.changes ∷ [] → c'.steps.items ≡ keep (Followed f.source f.log_position) c.steps.items → c'.limits ≡ c.limits
+      → SameRows c'.store.rows (all_applied f.changes c.store.rows) → c'.mode ≡ c.mode → HasStoredNext c.stored.log f.changes c'.stored.log → c'.steps.items ≡ keep (Followed f.source f.log_position) c.steps.items → c'.limits ≡ c.limits
       → length (entries_on s.slot seat.seen) < 2 ^ 40 → IsAfter o most seat' c'
   after_follow seat' c' seen at shard_is rows modes stores came limits_are room =
       let now : SameRows c'.store.rows (shard_rows o (run ++ e ∷ []) s) =
@@ -160,8 +162,9 @@ module _ (o : Opening) (most : Limits) (seat : SeatView Entry) (c : Contents) (i
               modes ∙ has.mode ∙ following ∙ sym mode_follows ∙ ap (λ (t : ShardRecord). mode o (run ++ e ∷ []) t.slot) (sym shard_is)
               ∙ ap (λ r. mode o r c'.shard.slot) (sym seen);
           stored =
-              stores ∙ ap (λ (l : List (List RowChange)). l ++ f.changes ∷ []) has.stored ∙ sym kept_now
-              ∙ ap (λ (t : ShardRecord). entries_kept t.slot (run ++ e ∷ [])) (sym shard_is) ∙ ap (entries_kept c'.shard.slot) (sym seen);
+              same_log _ _ _ _ refl
+              (sym kept_now ∙ ap (λ (t : ShardRecord). entries_kept t.slot (run ++ e ∷ [])) (sym shard_is) ∙ ap (entries_kept c'.shard.slot) (sym seen))
+              (stored_next c.stored.log c'.stored.log (entries_kept s.slot seat.seen) f.changes has.stored stores);
           steps =
               came ∙ ap (keep (Followed f.source f.log_position)) (has.steps ∙ ap (λ (es : List Entry). kept_from [] (flat_map (λ (x : Entry). steps_of x.event) es)) (sym same))
               ∙ sym (kept-push [] (steps_on s.slot run) (Followed f.source f.log_position)) ∙ ap (kept_from []) (sym (steps-push run e s.slot on))
@@ -216,9 +219,9 @@ module _ {X : Type 0} (o : Opening) (most : Limits) (seat looked : SeatView Entr
       ap (λ (s : ShardRecord). length (entries_on s.slot looked.seen)) (ap (λ (x : ShardView). x.shard) view)
       ∙ ap (λ (r : Run). length (entries_on v.shard.slot r)) (sym seen_same)
 
-  pub stored_told : length c.stored.items ≡ length (stored_on v.shard.slot q.seen)
+  pub stored_told : count_of c.stored.log ≡ length (stored_on v.shard.slot q.seen)
   stored_told =
-      ap length has_now.stored ∙ length-kept c.shard.slot looked.seen ∙ ap (λ (s : ShardRecord). length (stored_on s.slot looked.seen)) (ap (λ (x : ShardView). x.shard) view)
+      count_is _ _ has_now.stored ∙ length-kept c.shard.slot looked.seen ∙ ap (λ (s : ShardRecord). length (stored_on s.slot looked.seen)) (ap (λ (x : ShardView). x.shard) view)
       ∙ ap (λ (r : Run). length (stored_on v.shard.slot r)) (sym seen_same)
 
   module _ (f : F.Follow) (next : IsNext o p.seen v f) where
@@ -264,7 +267,7 @@ module _ {X : Type 0} (o : Opening) (most : Limits) (seat looked : SeatView Entr
         ∙ ap (λ (s : ShardRecord). row_count (shard_rows o (q.seen ++ record { shard = s; event = Follow f } ∷ []) s)) (ap (λ (x : ShardView). x.shard) view)
 
     -- where the test by counts says no, a limit is passed
-    pub passes : (n stored : ℕ) → n ≡ length (filter (on_slot slot_of seat.slot) looked.seen) → stored ≡ length c.stored.items
+    pub passes : (n stored : ℕ) → n ≡ length (filter (on_slot slot_of seat.slot) looked.seen) → stored ≡ count_of c.stored.log
         → has_room_for c.limits n stored (row_count c.store.rows) f.changes ≡ false → PassesLimit o most q.seen v.shard (Follow f)
     passes n stored ns ss h = by (no_room_for c.limits n stored (row_count c.store.rows) f.changes h)
       where

@@ -1,4 +1,5 @@
 mod ChangesSince
+pub mod StoredLogs
 pub mod Bags
 pub mod States
 pub mod Stores

@@ -2,7 +2,6 @@
 use Rattle.std.proofs.Common.{◌≡◌, ℕ, Bool, true, false, cond, List, [], ◌∷◌, ◌++◌, length, refl, sym, ap, ◌∙◌, subst}
 use Rattle.std.specs.List.{filter}
 use mathlib.Core.List.{IsPrefix}
-use Rattle.vschema.specs.declared.changes.RowChange.{RowChange}
 use Rattle.journal.specs.Runs.{IsLegal, by_session}
 use Rattle.journal.specs.Views.{SeatView, PassView, IsLater}
 use Rattle.shard_run.specs.declared.ShardRecord.{ShardRecord}
@@ -15,9 +14,11 @@ use Rattle.shard_contents.specs.declared.contents.Contents.{Contents}
 use Rattle.shard_law.specs.Entries.{slot_of, commit_of, MayFollow, HasLooked, ShardView}
 use Rattle.shard_contents.specs.Shards.{Keeps, holds, dropped, IsAfter}
 use Rattle.shard_contents.specs.Transactions.{PendingView, IsClear, IsStopped, is_conflict, conflict, moved}
-use Rattle.shard_contents.specs.inner.KeptConflicts.{is_conflict_since}
+use Rattle.shard_contents.specs.KeptEntries.{entries_kept}
+use Rattle.shard_contents.specs.inner.LastChanges.{tells_conflict}
 use Rattle.shard_contents.proofs.States.{holds_of, lives_if}
 use Rattle.shard_contents.proofs.KeptStored.{conflict_kept}
+use Rattle.shard_contents.proofs.StoredLogs.{conflict_told}
 use Rattle.vt_value.specs.declared.refusal.Refusal.TheVariants.{Conflict, ShardMoved}
 
 pub has_looked : (o : Opening) (slot : ℕ) (s : SeatView Entry) (p now : PassView Entry) (seen : Run) → IsLater slot_of commit_of (MayFollow o) s p seen
@@ -51,12 +52,12 @@ module _ (o : Opening) (most : Limits) (seat : SeatView Entry) (c : Contents) (i
   serving_here : c.mode ≡ Serving → mode o seat.seen c.shard.slot ≡ Serving
   serving_here = serving_is o most seat.seen c is.keeps
 
-  tested : c.mode ≡ Serving → is_conflict (stored_on c.shard.slot seat.seen) tx.touched ≡ is_conflict_since c.stored.items tx.touched
+  tested : c.mode ≡ Serving → is_conflict (stored_on c.shard.slot seat.seen) tx.touched ≡ tells_conflict c.stored.log.last tx.touched
   tested serves =
       let has = holds_of o most seat.seen c is.keeps (lives_if (mode o seat.seen c.shard.slot) (ap answers_queries (serving_here serves))) in
-      sym (conflict_kept (stored_on c.shard.slot seat.seen) tx.touched) ∙ ap (λ (l : List (List RowChange)). is_conflict_since l tx.touched) (sym has.stored)
+      sym (conflict_kept (stored_on c.shard.slot seat.seen) tx.touched) ∙ sym (conflict_told (entries_kept c.shard.slot seat.seen) c.stored.log.last has.stored.last tx.touched)
 
-  clear_is : c.mode ≡ Serving → is_conflict_since c.stored.items tx.touched ≡ false → IsClear o c.shard seat.seen tx
+  clear_is : c.mode ≡ Serving → tells_conflict c.stored.log.last tx.touched ≡ false → IsClear o c.shard seat.seen tx
   clear_is serves none = record { serving = serving_here serves; unchanged = tested serves ∙ none }
 
   -- as the shard's state is seen
@@ -65,10 +66,10 @@ module _ (o : Opening) (most : Limits) (seat : SeatView Entry) (c : Contents) (i
     there P h =
         subst (λ (u : ShardRecord). P u v.seen) shards (subst (λ (x : ShardView). P x.shard x.seen) view_is h)
 
-    pub clear_seen : c.mode ≡ Serving → is_conflict_since c.stored.items tx.touched ≡ false → IsClear o s v.seen tx
+    pub clear_seen : c.mode ≡ Serving → tells_conflict c.stored.log.last tx.touched ≡ false → IsClear o s v.seen tx
     clear_seen serves none = there (λ u r. IsClear o u r tx) (clear_is serves none)
 
-    pub conflict_seen : c.mode ≡ Serving → is_conflict_since c.stored.items tx.touched ≡ true → IsStopped o s v.seen tx Conflict
+    pub conflict_seen : c.mode ≡ Serving → tells_conflict c.stored.log.last tx.touched ≡ true → IsStopped o s v.seen tx Conflict
     conflict_seen serves some = there (λ u r. IsStopped o u r tx Conflict) (conflict (serving_here serves) (tested serves ∙ some))
 
     pub moved_seen : (c.mode ≡ Serving → ⊥) → IsStopped o s v.seen tx ShardMoved

@@ -33,6 +33,7 @@ use Rattle.shard_contents.specs.Progress.{steps_of, steps_on}
 use Rattle.shard_contents.specs.Kept.{kept_from, kept_on}
 use Rattle.shard_contents.specs.KeptEntries.{kept_of, entries_kept}
 use Rattle.shard_contents.proofs.Progress.{steps-push, no_steps}
+use Rattle.shard_contents.proofs.StoredLogs.{same_log}
 use Rattle.shard_contents.proofs.States.{held-same, mode-same, stored-same, holds_of, lives_if, entries-on, entries-off, contains_later}
 
 nothing_held : (e : Event) → is_plain e ≡ true → held_changes e ≡ []
@@ -129,7 +130,7 @@ module _ (o : Opening) (most : Limits) (seat : SeatView Entry) (c : Contents) (i
           ∙ ap (flat_map (λ (x : Entry). steps_of x.event)) here
 
       pub after : (seat' : SeatView Entry) (c' : Contents) → seat'.seen ≡ run ++ e ∷ [] → seat'.slot ≡ seat.slot → c'.shard ≡ s → c'.store.rows ≡ c.store.rows
-          → c'.mode ≡ m → c'.stored.items ≡ c.stored.items → c'.steps.items ≡ c.steps.items → c'.limits ≡ c.limits
+          → c'.mode ≡ m → c'.stored.log ≡ c.stored.log → c'.steps.items ≡ c.steps.items → c'.limits ≡ c.limits
           → (answers_queries m ≡ true → row_count c.store.rows ≤ most.rows) → IsAfter o most seat' c'
       after seat' c' seen at shard_is rows modes stores came limits_are fit = record {
         opens = is.opens;
@@ -142,8 +143,9 @@ module _ (o : Opening) (most : Limits) (seat : SeatView Entry) (c : Contents) (i
           tables = ap length rows ∙ has.tables;
           mode = modes ∙ sym mode_now ∙ ap (λ (t : ShardRecord). mode o (run ++ e ∷ []) t.slot) (sym shard_is) ∙ ap (λ r. mode o r c'.shard.slot) (sym seen);
           stored =
-              stores ∙ has.stored ∙ ap (map kept_of) (sym stored_now) ∙ ap (λ (t : ShardRecord). entries_kept t.slot (run ++ e ∷ [])) (sym shard_is)
-              ∙ ap (entries_kept c'.shard.slot) (sym seen);
+              same_log _ _ _ _ stores
+              (ap (map kept_of) (sym stored_now) ∙ ap (λ (t : ShardRecord). entries_kept t.slot (run ++ e ∷ [])) (sym shard_is)
+              ∙ ap (entries_kept c'.shard.slot) (sym seen)) has.stored;
           steps =
               came ∙ has.steps ∙ ap (kept_from []) (sym steps_now) ∙ ap (λ (t : ShardRecord). kept_on t.slot (run ++ e ∷ [])) (sym shard_is)
               ∙ ap (kept_on c'.shard.slot) (sym seen);

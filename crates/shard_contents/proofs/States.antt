@@ -6,6 +6,7 @@ use Rattle.shard_run.specs.Openings.{row_count}
 use Rattle.std.proofs.lemmas.List.{append-nil}
 use Rattle.std.proofs.lemmas.List.Elements.{filter-append}
 use mathlib.Core.List.{IsPrefix}
+use Rattle.vschema.specs.declared.changes.RowChange.{RowChange}
 use Rattle.vschema.specs.Database.{Database, SameRows, all_applied}
 use Rattle.journal.specs.Views.{SeatView, PassView, IsLater}
 use Rattle.shard_run.specs.declared.Event.TheVariants.{Retire}
@@ -24,6 +25,8 @@ use Rattle.shard_contents.specs.KeptEntries.{kept_of, entries_kept}
 use Rattle.shard_law.specs.Entries.{ShardView, slot_of, commit_of, MayFollow}
 use Rattle.shard_contents.specs.Shards.{RetiredFor, Holds, Keeps, holds, dropped, IsAfter, beyond}
 use Rattle.shard_contents.proofs.Legality.{stands-same}
+use Rattle.shard_contents.specs.inner.StoredLogs.{HasStored}
+use Rattle.shard_contents.proofs.StoredLogs.{same_log, followed}
 
 filter_both : {X : Type 0} (f g : X → Bool) (xs : List X) → filter (λ x. f x && g x) xs ≡ filter g (filter f xs)
 filter_both f g [] = refl
@@ -54,7 +57,7 @@ module _ (o : Opening) (limits : Limits) (old new : Run) (c : Contents) (same : 
     rows = subst (SameRows c.store.rows) (sym (held-same o old new c.shard same)) is.rows;
     tables = is.tables;
     mode = is.mode ∙ sym (mode-same o old new c.shard same);
-    stored = is.stored ∙ ap (map kept_of) (sym (stored-same o old new c.shard same));
+    stored = same_log _ _ _ _ refl (ap (map kept_of) (sym (stored-same o old new c.shard same))) is.stored;
     steps = is.steps ∙ ap (λ (es : List Entry). kept_from [] (flat_map (λ (e : Entry). steps_of e.event) es)) (sym same);
     within = λ serves. is.within (ap answers_queries (sym (mode-same o old new c.shard same)) ∙ serves);
   }
@@ -82,10 +85,11 @@ still_after o limits old new c slot same is =
       most_rows = is.most_rows;
     }
 
--- contents that say the same
-pub same_contents : (o : Opening) (limits : Limits) (seat : SeatView Entry) (c d : Contents) → IsAfter o limits seat c → d.shard ≡ c.shard
-    → d.store.rows ≡ c.store.rows → d.mode ≡ c.mode → d.stored.items ≡ c.stored.items → d.steps.items ≡ c.steps.items → d.limits ≡ c.limits → IsAfter o limits seat d
-same_contents o limits seat c d is shards rows modes stores came most =
+-- contents that say the same, of the same stored entries
+alike : (o : Opening) (limits : Limits) (seat : SeatView Entry) (c d : Contents) → IsAfter o limits seat c → d.shard ≡ c.shard
+    → d.store.rows ≡ c.store.rows → d.mode ≡ c.mode → ((all : List (List RowChange)) → HasStored c.stored.log all → HasStored d.stored.log all)
+    → d.steps.items ≡ c.steps.items → d.limits ≡ c.limits → IsAfter o limits seat d
+alike o limits seat c d is shards rows modes stores came most =
     record {
       opens = is.opens;
       slot = is.slot ∙ ap (λ (s : ShardRecord). s.slot) (sym shards);
@@ -103,13 +107,25 @@ same_contents o limits seat c d is shards rows modes stores came most =
           (subst (λ (db : Database). SameRows db (shard_rows o seat.seen c.shard)) (sym rows) h.rows);
       tables = ap length rows ∙ h.tables;
       mode = modes ∙ h.mode ∙ ap (λ (s : ShardRecord). mode o seat.seen s.slot) (sym shards);
-      stored = stores ∙ h.stored ∙ ap (λ (s : ShardRecord). entries_kept s.slot seat.seen) (sym shards);
+      stored = subst (λ (s : ShardRecord). HasStored d.stored.log (entries_kept s.slot seat.seen)) (sym shards) (stores (entries_kept c.shard.slot seat.seen) h.stored);
       steps = came ∙ h.steps ∙ ap (λ (s : ShardRecord). kept_on s.slot seat.seen) (sym shards);
       within = λ serves.
           subst (λ (db : Database). row_count db ≤ limits.rows) (sym rows)
           (h.within (ap (λ (s : ShardRecord). answers_queries (mode o seat.seen s.slot)) (sym shards) ∙ serves));
     })
     by (dropped e r) = dropped (modes ∙ e) (ap (λ (s : ShardRecord). mode o seat.seen s.slot) shards ∙ r)
+
+pub same_contents : (o : Opening) (limits : Limits) (seat : SeatView Entry) (c d : Contents) → IsAfter o limits seat c → d.shard ≡ c.shard
+    → d.store.rows ≡ c.store.rows → d.mode ≡ c.mode → d.stored.log ≡ c.stored.log → d.steps.items ≡ c.steps.items → d.limits ≡ c.limits → IsAfter o limits seat d
+same_contents o limits seat c d is shards rows modes stores came most =
+    alike o limits seat c d is shards rows modes (λ all h. same_log c.stored.log d.stored.log all all stores refl h) came most
+
+-- and that keep what is stored from now on
+pub followed_contents : (o : Opening) (limits : Limits) (seat : SeatView Entry) (c d : Contents) → IsAfter o limits seat c → d.shard ≡ c.shard
+    → d.store.rows ≡ c.store.rows → d.mode ≡ c.mode → d.stored.log ≡ record c.stored.log { is_followed = true } → d.steps.items ≡ c.steps.items
+    → d.limits ≡ c.limits → IsAfter o limits seat d
+followed_contents o limits seat c d is shards rows modes stores came most =
+    alike o limits seat c d is shards rows modes (λ all h. followed c.stored.log d.stored.log all stores h) came most
 
 -- a shard that isn't retired holds what the run leaves on it
 pub holds_of : (o : Opening) (limits : Limits) (run : Run) (c : Contents) → Keeps o limits run c → (mode o run c.shard.slot ≡ Retired → ⊥) → Holds o limits run c

@@ -1,4 +1,4 @@
--- What a shard keeps of the entries that it has stored: what each of them changes.
+-- What a shard keeps of an entry that it has stored: what it changes. Shards tells how many of them it still has.
 use Rattle.std.specs.Prelude.{ℕ, List, map}
 use Rattle.vschema.specs.declared.changes.RowChange.{RowChange}
 use Rattle.shard_run.specs.declared.Entry.{Entry}

@@ -19,6 +19,7 @@ use Rattle.shard_run.specs.Copies.{position, change_is_copied}
 use Rattle.shard_law.specs.declared.limits.Limits.{Limits}
 use Rattle.shard_contents.specs.Kept.{kept_on}
 use Rattle.shard_contents.specs.KeptEntries.{entries_kept}
+use Rattle.shard_contents.specs.inner.StoredLogs.{HasStored}
 use Rattle.shard_contents.specs.declared.contents.Contents.{Contents}
 use Rattle.shard_contents.specs.declared.outcomes.Reading.{Reading}
 use Rattle.shard_contents.specs.declared.outcomes.ReadOutcome.{ReadOutcome}
@@ -31,14 +32,14 @@ beyond Following = 0
 beyond Frozen = 0
 beyond _ = 1
 
--- Its rows, in any order, its mode, what it keeps of the entries that it stores and of its steps with its sources are those that the run leaves
--- on it, and if it serves its rows are within the limits.
+-- Its rows, in any order, its mode, what it keeps of the entries that it has stored and of its steps with its sources are those that the run
+-- leaves on it, and if it serves its rows are within the limits.
 pub record Holds (o : Opening) (most : Limits) (run : Run) (c : Contents) : Type 0 where
   pub rows : SameRows c.store.rows (shard_rows o run c.shard)
   pub tables : length c.store.rows ≡ length o.schema.tables
   pub within : answers_queries (mode o run c.shard.slot) ≡ true → row_count c.store.rows ≤ most.rows
   pub mode : c.mode ≡ mode o run c.shard.slot
-  pub stored : c.stored.items ≡ entries_kept c.shard.slot run
+  pub stored : HasStored c.stored.log (entries_kept c.shard.slot run)
   pub steps : c.steps.items ≡ kept_on c.shard.slot run
 
 -- Either that, or its rows are gone, which only a retired shard's may.

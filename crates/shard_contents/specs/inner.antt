@@ -9,3 +9,4 @@ pub mod Transactions
 pub mod Earlier
 pub mod KeptConflicts
 pub mod LastChanges
+pub mod StoredLogs

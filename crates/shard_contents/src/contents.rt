@@ -12,7 +12,7 @@ ghost use Rattle.shard_contents.specs.Kept.{keep};
 ghost use Rattle.shard_contents.specs.KeptEntries.{kept_of};
 ghost use Rattle.shard_contents.specs.Commits.{inserted_rows, commit_entry};
 ghost use Rattle.shard_contents.specs.inner.Commits.{has_room, IsUnprepared};
-ghost use Rattle.shard_contents.specs.inner.LastChanges.{HasPlaceFor};
+ghost use Rattle.shard_contents.specs.inner.StoredLogs.{HasPlaceFor, HasStoredNext, count_of};
 
 use crate::copies::{copy_shard, one, with_owned};
 use crate::kept_entry::KeptEntry;
@@ -99,7 +99,7 @@ impl Contents {
     // Whether one more stored entry with this write passes no limit.
     fn has_room(&self, entries: u64, write: &Write) -> bool
         requires { row_count self.now.store.rows ≤ self.now.limits.rows }
-        ensures { result ≡ has_room self.now.limits entries (length self.now.stored.items) (row_count self.now.store.rows) write.now }
+        ensures { result ≡ has_room self.now.limits entries (count_of self.now.stored.log) (row_count self.now.store.rows) write.now }
     {
         let left = self.limits.rows - self.store.row_count() as u64;
         entries < MOST_ENTRIES
@@ -118,8 +118,8 @@ impl Contents {
         requires there { written_table write.now < length schema.now.tables }
         requires within { row_count self.now.store.rows ≤ self.now.limits.rows }
         ensures changes { IfOk result (λ changes. changes_of schema.now write.now self.now.store.rows ≡ Ok changes) }
-        ensures limits { OnOk result (IsTrue (has_room self.now.limits entries (length self.now.stored.items) (row_count self.now.store.rows) write.now)) }
-        ensures err { IfErr result (IsUnprepared schema.now self.now.limits entries (length self.now.stored.items) self.now.store.rows write.now) }
+        ensures limits { OnOk result (IsTrue (has_room self.now.limits entries (count_of self.now.stored.log) (row_count self.now.store.rows) write.now)) }
+        ensures err { IfErr result (IsUnprepared schema.now self.now.limits entries (count_of self.now.stored.log) self.now.store.rows write.now) }
     {
         let ordinal = written_table(write);
         let table = &schema.tables.as_slice()[ordinal];
@@ -145,12 +145,12 @@ impl Contents {
         ensures kept { IfOk result (λ r. r.1.0 ≡ r.0) }
         ensures ready { IfOk result (λ r. IsReadyFor self.new.store r.0 r.1.1.items) }
         ensures one_more { IfOk result (λ r. HasPlaceFor self.new.stored r.1.0) }
-        ensures limits { OnOk result (IsTrue (has_room self.old.limits entries (length self.old.stored.items) (row_count self.old.store.rows) write.now)) }
-        ensures err { IfErr result (IsUnprepared schema.now self.old.limits entries (length self.old.stored.items) self.old.store.rows write.now) }
+        ensures limits { OnOk result (IsTrue (has_room self.old.limits entries (count_of self.old.stored.log) (row_count self.old.store.rows) write.now)) }
+        ensures err { IfErr result (IsUnprepared schema.now self.old.limits entries (count_of self.old.stored.log) self.old.store.rows write.now) }
         ensures shard { self.new.shard ≡ self.old.shard }
         ensures rows { self.new.store.rows ≡ self.old.store.rows }
         ensures mode { self.new.mode ≡ self.old.mode }
-        ensures stored { self.new.stored.items ≡ self.old.stored.items }
+        ensures stored { self.new.stored.log ≡ self.old.stored.log }
         ensures steps { self.new.steps.items ≡ self.old.steps.items }
         ensures same_limits { self.new.limits ≡ self.old.limits }
     {
@@ -178,12 +178,12 @@ impl Contents {
         ensures kept { IfOk result (λ p. p.kept ≡ kept_of p.entry) }
         ensures ready { IfOk result (λ p. IsReadyFor self.new.store (held_changes p.entry.event) p.changes.items) }
         ensures one_more { IfOk result (λ p. HasPlaceFor self.new.stored p.kept) }
-        ensures limits { OnOk result (IsTrue (has_room self.old.limits entries (length self.old.stored.items) (row_count self.old.store.rows) write)) }
-        ensures err { IfErr result (IsUnprepared schema.now self.old.limits entries (length self.old.stored.items) self.old.store.rows write) }
+        ensures limits { OnOk result (IsTrue (has_room self.old.limits entries (count_of self.old.stored.log) (row_count self.old.store.rows) write)) }
+        ensures err { IfErr result (IsUnprepared schema.now self.old.limits entries (count_of self.old.stored.log) self.old.store.rows write) }
         ensures shard { self.new.shard ≡ self.old.shard }
         ensures rows { self.new.store.rows ≡ self.old.store.rows }
         ensures mode { self.new.mode ≡ self.old.mode }
-        ensures stored { self.new.stored.items ≡ self.old.stored.items }
+        ensures stored { self.new.stored.log ≡ self.old.stored.log }
         ensures steps { self.new.steps.items ≡ self.old.steps.items }
         ensures same_limits { self.new.limits ≡ self.old.limits }
     {
@@ -212,7 +212,7 @@ impl Contents {
         ensures shard { self.new.shard ≡ self.old.shard }
         ensures rows { self.new.store.rows ≡ self.old.store.rows }
         ensures mode { self.new.mode ≡ self.old.mode }
-        ensures stored { self.new.stored.items ≡ self.old.stored.items }
+        ensures stored { self.new.stored.log ≡ self.old.stored.log }
         ensures steps { self.new.steps.items ≡ self.old.steps.items }
         ensures same_limits { self.new.limits ≡ self.old.limits }
     {
@@ -238,7 +238,7 @@ impl Contents {
         requires one_more { HasPlaceFor self.old.stored prepared.kept }
         ensures count { result ≡ prepared.count }
         ensures rows { SameRows self.new.store.rows (all_applied (held_changes prepared.entry.event) self.old.store.rows) }
-        ensures stored { self.new.stored.items ≡ self.old.stored.items ++ kept_of prepared.entry ∷ [] }
+        ensures stored { HasStoredNext self.old.stored.log (kept_of prepared.entry) self.new.stored.log }
         ensures steps { self.new.steps ≡ self.old.steps }
         ensures shard { self.new.shard ≡ self.old.shard }
         ensures mode { self.new.mode ≡ self.old.mode }
@@ -261,7 +261,7 @@ impl Contents {
         requires one_more { HasPlaceFor self.old.stored prepared.kept }
         requires one_step { vec_len self.old.steps < vec_capacity self.old.steps }
         ensures rows { SameRows self.new.store.rows (all_applied (held_changes prepared.entry.event) self.old.store.rows) }
-        ensures stored { self.new.stored.items ≡ self.old.stored.items ++ kept_of prepared.entry ∷ [] }
+        ensures stored { HasStoredNext self.old.stored.log (kept_of prepared.entry) self.new.stored.log }
         ensures steps { self.new.steps.items ≡ keep step self.old.steps.items }
         ensures shard { self.new.shard ≡ self.old.shard }
         ensures mode { self.new.mode ≡ self.old.mode }

@@ -207,7 +207,7 @@ impl Contents {
         ensures shard { self.new.shard ≡ self.old.shard }
         ensures rows { self.new.store.rows ≡ self.old.store.rows }
         ensures mode { self.new.mode ≡ self.old.mode }
-        ensures stored { self.new.stored.items ≡ self.old.stored.items }
+        ensures stored { self.new.stored.log ≡ self.old.stored.log }
         ensures steps { self.new.steps.items ≡ self.old.steps.items }
         ensures same_limits { self.new.limits ≡ self.old.limits }
     {

@@ -1,7 +1,7 @@
 //! A transaction that isn't committed: what it has touched, for conflicts, and what it has written.
 ghost use Rattle.std.specs.Prelude.{◌≡◌, false, ◌↔◌, ◌++◌, ◌+◌, ◌<◌, ◌≤◌, ◌∷◌, [], IfOk, IfErr, OnOk, OnErr, length, vec_len, vec_capacity};
 ghost use Rattle.shard_contents.specs.Transactions.{nothing_done, is_touched, touched_with, touched_all};
-ghost use Rattle.shard_contents.specs.inner.KeptConflicts.{is_changed_since, is_conflict_since};
+ghost use Rattle.shard_contents.specs.inner.LastChanges.{tells_change, tells_conflict};
 ghost use Rattle.vschema.specs.Sources.{source_tables};
 
 use crate::copies::{copy_changes, with_owned};
@@ -91,9 +91,9 @@ impl Pending {
         !self.writes.is_empty()
     }
 
-    /// Whether an entry that the shard has stored since a touch changes a row of the touched table.
+    /// Whether an entry that the shard has stored since a touch changes a row of the touched table. Looks at no entry.
     pub fn is_conflict(&self, stored: &StoredEntries) -> bool
-        ensures { result ≡ is_conflict_since stored.now.items self.now.touched }
+        ensures { result ≡ tells_conflict stored.now.log.last self.now.touched }
     {
         self.touched
             .iter()

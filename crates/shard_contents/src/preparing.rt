@@ -9,7 +9,7 @@ ghost use Rattle.shard_contents.specs.KeptEntries.{kept_of};
 ghost use Rattle.shard_contents.specs.Transactions.{entry_of};
 ghost use Rattle.shard_contents.specs.Commits.{is_added, is_removed};
 ghost use Rattle.shard_contents.specs.inner.Transactions.{has_room_for, IsAllUnprepared};
-ghost use Rattle.shard_contents.specs.inner.LastChanges.{HasPlaceFor};
+ghost use Rattle.shard_contents.specs.inner.StoredLogs.{HasPlaceFor, count_of};
 
 use crate::contents::{Contents, Prepared, StatementId};
 use crate::copies::copy_shard;
@@ -85,7 +85,7 @@ impl Contents {
     /// Whether one more stored entry with these changes passes no limit, once the shard has so many entries.
     pub fn has_room_for(&self, entries: u64, changes: &[RowChange]) -> bool
         requires most { self.now.limits.rows ≤ 2 ^ 20 }
-        ensures { result ≡ has_room_for self.now.limits entries (length self.now.stored.items) (row_count self.now.store.rows) changes.now }
+        ensures { result ≡ has_room_for self.now.limits entries (count_of self.now.stored.log) (row_count self.now.store.rows) changes.now }
     {
         entries < MOST_ENTRIES
             && (self.stored.len() as u64) < self.limits.stored
@@ -106,7 +106,7 @@ impl Contents {
         ensures shard { self.new.shard ≡ self.old.shard }
         ensures rows { self.new.store.rows ≡ self.old.store.rows }
         ensures mode { self.new.mode ≡ self.old.mode }
-        ensures stored { self.new.stored.items ≡ self.old.stored.items }
+        ensures stored { self.new.stored.log ≡ self.old.stored.log }
         ensures steps { self.new.steps.items ≡ self.old.steps.items }
         ensures same_limits { self.new.limits ≡ self.old.limits }
     {
@@ -133,13 +133,13 @@ impl Contents {
         ensures entry { IfOk result (λ p. p.entry ≡ entry_of self.old.shard statement_id.session statement_id.number tx.old.writes tx.old.changes) }
         ensures ready { IfOk result (λ p. IsReadyFor self.new.store (held_changes p.entry.event) p.changes.items) }
         ensures one_more { IfOk result (λ p. HasPlaceFor self.new.stored p.kept) }
-        ensures limits { OnOk result (has_room_for self.old.limits entries (length self.old.stored.items) (row_count self.old.store.rows) tx.old.changes ≡ true) }
-        ensures err { IfErr result (IsAllUnprepared self.old.limits entries (length self.old.stored.items) (row_count self.old.store.rows) tx.old.changes) }
+        ensures limits { OnOk result (has_room_for self.old.limits entries (count_of self.old.stored.log) (row_count self.old.store.rows) tx.old.changes ≡ true) }
+        ensures err { IfErr result (IsAllUnprepared self.old.limits entries (count_of self.old.stored.log) (row_count self.old.store.rows) tx.old.changes) }
         ensures unchanged { OnErr result (tx.new ≡ tx.old) }
         ensures shard { self.new.shard ≡ self.old.shard }
         ensures rows { self.new.store.rows ≡ self.old.store.rows }
         ensures mode { self.new.mode ≡ self.old.mode }
-        ensures stored { self.new.stored.items ≡ self.old.stored.items }
+        ensures stored { self.new.stored.log ≡ self.old.stored.log }
         ensures steps { self.new.steps.items ≡ self.old.steps.items }
         ensures same_limits { self.new.limits ≡ self.old.limits }
     {

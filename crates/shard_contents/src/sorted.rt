@@ -1,18 +1,19 @@
 //! Tables in the order of their primary keys, which a shard that stores them in another order keeps while they are copied to targets.
-ghost use Rattle.std.specs.Prelude.{◌≡◌, ◌<◌, ◌≤◌, ◌==◌, ◌++◌, ◌∷◌, [], IsSome, IfOk, IfErr, IfSome, OnOk, IsPermutation, List, drop, option_copied, length, position};
-ghost use Rattle.vschema.specs.declared.changes.RowChange as row;
+ghost use Rattle.std.specs.Prelude.{◌≡◌, ◌<◌, ◌≤◌, ◌==◌, ◌++◌, ◌∷◌, [], IsSome, IfOk, IfErr, IfSome, OnOk, IsPermutation, true, option_copied, length, position};
 ghost use Rattle.vschema.specs.Database.{Database, rows_of, without, all_applied};
 ghost use Rattle.shard_store.specs.Slots.{slot_at};
 ghost use Rattle.shard_store.specs.Tables.{key_at};
 ghost use Rattle.shard_contents.specs.Copying.{is_left_to_copy};
 ghost use Rattle.shard_contents.specs.inner.Placed.{AreFirst};
 ghost use Rattle.shard_contents.specs.inner.Stores.{row_after};
+ghost use Rattle.shard_contents.specs.inner.StoredLogs.{StoredLog, count_of, stored_since};
 ghost use Rattle.shard_contents.specs.inner.Earlier.{changes_by, HadRows, AllHadRows, IsCurrentTable};
 
 use crate::contents::Contents;
 use crate::copying::NextTable;
 use crate::kept_entry::KeptEntry;
 use crate::next_rows::{COPY_STEP, first_wanted};
+use crate::stored_entries::StoredEntries;
 use shard_store::{
     AllRows, ChangedRows, RowKey, RowSource, SharedChange, SharedRow, StoredTables, TableRows,
 };
@@ -163,15 +164,16 @@ impl SortedTable {
     }
 
     // Brings the rows forward by the entries that were stored since.
-    fn bring_forward(&mut self, alloc: Global, stored: &[KeptEntry]) -> Result<(), Refusal>
-        requires { self.old.stored ≤ length stored.now }
+    fn bring_forward(&mut self, alloc: Global, stored: &StoredEntries) -> Result<(), Refusal>
+        requires there { stored.now.log.first ≤ self.old.stored }
+        requires within { self.old.stored ≤ count_of stored.now.log }
         ensures table { self.new.table ≡ self.old.table }
-        ensures stored { OnOk result (self.new.stored ≡ length stored.now) }
+        ensures stored { OnOk result (self.new.stored ≡ count_of stored.now.log) }
         ensures rows { OnOk result ((db : Database) → self.old.table < length db → IsPermutation self.old.rows (rows_of db self.old.table)
-            → IsPermutation self.new.rows (rows_of (all_applied (changes_by (drop self.old.stored stored.now)) db) self.old.table)) }
+            → IsPermutation self.new.rows (rows_of (all_applied (changes_by (stored_since stored.now.log self.old.stored)) db) self.old.table)) }
         ensures err { IfErr result (λ e. e ≡ Refusal.OutOfMemory) }
     {
-        let since = &stored[self.stored..];
+        let since = stored.since(self.stored);
         change_by(alloc, self.table, &mut self.rows, since)?;
         self.stored = stored.len();
         Ok(())
@@ -234,8 +236,8 @@ impl SortedTables {
 
     // Takes out the table at an ordinal of the VSchema, if it is there.
     fn take(&mut self, place: usize) -> Option<SortedTable>
-        ensures had { (stored : List (List row.RowChange)) (now : Database) → AllHadRows stored now self.old → AllHadRows stored now self.new }
-        ensures taken { IfSome result (λ t. (t.table ≡ place) × ((stored : List (List row.RowChange)) (now : Database) → AllHadRows stored now self.old → HadRows stored now t)) }
+        ensures had { (log : StoredLog) (now : Database) → AllHadRows log now self.old → AllHadRows log now self.new }
+        ensures taken { IfSome result (λ t. (t.table ≡ place) × ((log : StoredLog) (now : Database) → AllHadRows log now self.old → HadRows log now t)) }
     {
         let at = ordinal_of(self.tables.as_slice(), place)?;
         Some(self.tables.remove(at))
@@ -250,14 +252,14 @@ impl SortedTables {
         table: &Table,
     ) -> Result<SortedTable, Refusal>
         requires there { place < length contents.now.store.rows }
-        requires had { AllHadRows contents.now.stored.items contents.now.store.rows self.old }
-        ensures had { AllHadRows contents.now.stored.items contents.now.store.rows self.new }
-        ensures ok { IfOk result (IsCurrentTable place (length contents.now.stored.items) contents.now.store.rows) }
+        requires had { AllHadRows contents.now.stored.log contents.now.store.rows self.old }
+        ensures had { AllHadRows contents.now.stored.log contents.now.store.rows self.new }
+        ensures ok { IfOk result (IsCurrentTable place (count_of contents.now.stored.log) contents.now.store.rows) }
         ensures err { IfErr result (λ e. e ≡ Refusal.OutOfMemory) }
     {
         match self.take(place) {
             Some(mut sorted) => {
-                sorted.bring_forward(alloc, contents.stored.as_slice())?;
+                sorted.bring_forward(alloc, &contents.stored)?;
                 Ok(sorted)
             }
             None => SortedTable::new(alloc, &contents.store, place, table, contents.stored.len()),
@@ -266,7 +268,7 @@ impl SortedTables {
 
     // Keeps a table of which so many rows were copied last, unless these were the last of all.
     fn keep(&mut self, sorted: SortedTable, copied: usize) -> Result<(), Refusal>
-        ensures had { (stored : List (List row.RowChange)) (now : Database) → HadRows stored now sorted → AllHadRows stored now self.old → AllHadRows stored now self.new }
+        ensures had { (log : StoredLog) (now : Database) → HadRows log now sorted → AllHadRows log now self.old → AllHadRows log now self.new }
         ensures err { IfErr result (λ e. e ≡ Refusal.OutOfMemory) }
     {
         if copied < COPY_STEP {
@@ -287,8 +289,9 @@ impl SortedTables {
         next: &NextTable,
     ) -> Result<Vec<Row>, Refusal>
         requires there { next.now.table < length contents.now.store.rows }
-        requires had { AllHadRows contents.now.stored.items contents.now.store.rows self.old }
-        ensures had { AllHadRows contents.now.stored.items contents.now.store.rows self.new }
+        requires followed { contents.now.stored.log.is_followed ≡ true }
+        requires had { AllHadRows contents.now.stored.log contents.now.store.rows self.old }
+        ensures had { AllHadRows contents.now.stored.log contents.now.store.rows self.new }
         ensures ok { IfOk result (λ first. AreFirst table.now (is_left_to_copy place.now table.now next.now.after) (rows_of contents.now.store.rows next.now.table) first.items) }
         ensures err { IfErr result (λ e. e ≡ Refusal.OutOfMemory) }
     {
@@ -312,8 +315,9 @@ impl Contents {
         next: &NextTable,
     ) -> Result<Vec<Row>, Refusal>
         requires there { next.now.table < length self.now.store.rows }
-        requires had { AllHadRows self.now.stored.items self.now.store.rows sorted.old }
-        ensures had { AllHadRows self.now.stored.items self.now.store.rows sorted.new }
+        requires followed { self.now.stored.log.is_followed ≡ true }
+        requires had { AllHadRows self.now.stored.log self.now.store.rows sorted.old }
+        ensures had { AllHadRows self.now.stored.log self.now.store.rows sorted.new }
         ensures ok { IfOk result (λ first. AreFirst table.now (is_left_to_copy place.now table.now next.now.after) (rows_of self.now.store.rows next.now.table) first.items) }
         ensures err { IfErr result (λ e. e ≡ Refusal.OutOfMemory) }
     {

@@ -1,10 +1,11 @@
-//! The entries that a shard has stored. Of each table they tell how many there were when it was last changed, so a transaction's conflicts are
-//! found without a walk over them.
-ghost use Rattle.std.specs.Prelude.{◌≡◌, ◌==◌, ◌+◌, ◌<◌, ◌≤◌, ◌++◌, ◌∷◌, [], ℕ, if◌then◌else◌, IfErr, OnOk, length, vec_len};
+//! The entries that a shard has stored: how many, and what they changed, from the time on when somebody follows the shard. Of each table they
+//! tell how many there were when it was last changed, so a transaction's conflicts are found without the entries.
+ghost use Rattle.std.specs.Prelude.{◌≡◌, ◌==◌, ◌-◌, ◌+◌, ◌<◌, ◌≤◌, ◌^◌, true, ℕ, if◌then◌else◌, IfErr, IfSome, OnOk, Some, slice_get, vec_len, vec_capacity};
 ghost use Rattle.std.specs.List.{AllByRecursion};
 ghost use Rattle.vschema.specs.Database.{changed_table};
-ghost use Rattle.shard_contents.specs.inner.KeptConflicts.{keeps_table, is_changed_since};
-ghost use Rattle.shard_contents.specs.inner.LastChanges.{HasPlaceFor, last_change};
+ghost use Rattle.shard_contents.specs.inner.KeptConflicts.{keeps_table};
+ghost use Rattle.shard_contents.specs.inner.LastChanges.{last_change, tells_change};
+ghost use Rattle.shard_contents.specs.inner.StoredLogs.{HasPlaceFor, HasStoredNext, nothing_stored, count_of, stored_since};
 
 use crate::kept_entry::KeptEntry;
 use crate::touched_table::Touch;
@@ -13,27 +14,36 @@ use std::alloc::Global;
 use std::marker::Model;
 use vt_value::Refusal;
 
-/// The entries that a shard has stored, in order. Contracts see a `StoredView`.
+/// The entries that a shard has stored, in order. While nobody follows the shard none is kept, since nobody asks for it. Contracts see a
+/// `StoredView`.
 #[derive(Drop)]
 pub struct StoredEntries {
-    entries: Vec<KeptEntry>,
+    // how many were given up, all before the kept ones
+    first: usize,
+    kept: Vec<KeptEntry>,
     // of each table, how many entries there were when one last changed it; no entry has changed a table after the last of these
     last_changed: Vec<usize>,
+    is_followed: bool,
 }
 
 impl Model for StoredEntries {
-    ghost use Rattle.std.specs.Prelude.{◌-◌, vec_len, vec_capacity};
+    ghost use Rattle.std.specs.Prelude.{◌+◌, ◌-◌, ◌<◌, ◌^◌, vec_len, vec_capacity};
     ghost use Rattle.std.specs.Coded.{codes};
     ghost use Rattle.vschema.specs.contracts.changes.RowChange as change;
-    ghost use Rattle.shard_contents.specs.inner.LastChanges.{StoredView, TellLastChanges};
+    ghost use Rattle.shard_contents.specs.inner.StoredLogs.{StoredView};
 
     ghost Value = { StoredView };
 
     ghost coded = { Prim.hlevel (codes, change.the_row.coded) };
 
-    ghost view = { λ s. record { items = s.entries.items; room = vec_capacity s.entries - vec_len s.entries; tables = vec_len s.last_changed } };
+    ghost view = { λ s. record {
+      log = record { first = s.first; kept = s.kept.items; last = s.last_changed.items; is_followed = s.is_followed };
+      room = vec_capacity s.kept - vec_len s.kept;
+      tables = vec_capacity s.last_changed;
+    } };
 
-    ghost invariant = { λ s. TellLastChanges s.entries.items s.last_changed.items };
+    // they can be counted
+    ghost invariant = { λ s. s.first + vec_len s.kept < 2 ^ 64 };
 }
 
 // How many entries there were when one last changed the table at an ordinal.
@@ -46,23 +56,30 @@ fn last_change(last_changed: &[usize], ordinal: usize) -> usize
     }
 }
 
-// Lengthens the list, so that it has the table at an ordinal.
+// Makes memory for the table at an ordinal. Refuses for want of it.
 fn reserve_table(last_changed: &mut Vec<usize>, ordinal: usize) -> Result<(), Refusal>
-    ensures same { (n : ℕ) → last_change last_changed.new.items n ≡ last_change last_changed.old.items n }
-    ensures longer { length last_changed.old.items ≤ length last_changed.new.items }
-    ensures ok { OnOk result (ordinal < length last_changed.new.items) }
+    ensures same { last_changed.new.items ≡ last_changed.old.items }
+    ensures larger { vec_capacity last_changed.old ≤ vec_capacity last_changed.new }
+    ensures ok { OnOk result (ordinal < vec_capacity last_changed.new) }
     ensures err { IfErr result (λ e. e ≡ Refusal.OutOfMemory) }
 {
-    while last_changed.len() <= ordinal {
-        last_changed.push(0)?;
+    let len = last_changed.len();
+    if ordinal < len {
+        return Ok(());
     }
-    Ok(())
+    match (ordinal - len).checked_add(1) {
+        Some(more) => {
+            last_changed.reserve(more)?;
+            Ok(())
+        }
+        None => Err(Refusal::OutOfMemory),
+    }
 }
 
-// Lengthens the list, so that it has the tables of the changes.
+// Makes memory for the tables of the changes. Refuses for want of it.
 fn reserve_tables(last_changed: &mut Vec<usize>, changes: &[SharedChange]) -> Result<(), Refusal>
-    ensures same { (n : ℕ) → last_change last_changed.new.items n ≡ last_change last_changed.old.items n }
-    ensures ok { OnOk result (AllByRecursion (λ c. changed_table c < length last_changed.new.items) changes.now) }
+    ensures same { last_changed.new.items ≡ last_changed.old.items }
+    ensures ok { OnOk result (AllByRecursion (λ c. changed_table c < vec_capacity last_changed.new) changes.now) }
     ensures err { IfErr result (λ e. e ≡ Refusal.OutOfMemory) }
 {
     for change in changes {
@@ -71,75 +88,126 @@ fn reserve_tables(last_changed: &mut Vec<usize>, changes: &[SharedChange]) -> Re
     Ok(())
 }
 
-// Notes the tables of the changes that the last of so many entries makes.
+// Notes that the last of so many entries changes the table at an ordinal. Takes no memory.
+fn note_table(last_changed: &mut Vec<usize>, ordinal: usize, count: usize)
+    requires { ordinal < vec_capacity last_changed.old }
+    ensures noted { (n : ℕ) → last_change last_changed.new.items n ≡ (if ordinal == n then count else last_change last_changed.old.items n) }
+    ensures capacity { vec_capacity last_changed.new ≡ vec_capacity last_changed.old }
+{
+    while last_changed.len() <= ordinal {
+        last_changed.push_reserved(0);
+    }
+    last_changed[ordinal] = count;
+}
+
+// Notes the tables of the changes that the last of so many entries makes. Takes no memory.
 fn note(last_changed: &mut Vec<usize>, changes: &[SharedChange], count: usize)
-    requires { AllByRecursion (λ c. changed_table c < length last_changed.old.items) changes.now }
+    requires { AllByRecursion (λ c. changed_table c < vec_capacity last_changed.old) changes.now }
     ensures { (n : ℕ) → last_change last_changed.new.items n ≡ (if keeps_table n changes.now then count else last_change last_changed.old.items n) }
 {
     for change in changes {
-        last_changed[change.table()] = count;
+        note_table(last_changed, change.table(), count);
     }
 }
 
 impl StoredEntries {
-    /// No entries. Takes no memory.
+    /// No entries, and nobody follows the shard. Takes no memory.
     pub fn new(alloc: Global) -> StoredEntries
-        ensures { result.items ≡ [] }
+        ensures { result.log ≡ nothing_stored }
     {
         StoredEntries {
-            entries: Vec::new(alloc),
+            first: 0,
+            kept: Vec::new(alloc),
             last_changed: Vec::new(alloc),
+            is_followed: false,
         }
     }
 
-    /// How many there are.
+    /// How many were stored.
     pub fn len(&self) -> usize
-        ensures { result ≡ length self.now.items }
+        ensures { result ≡ count_of self.now.log }
     {
-        self.entries.len()
+        self.first + self.kept.len()
     }
 
-    /// Whether there is none.
+    /// Whether none was.
     pub fn is_empty(&self) -> bool
-        ensures { result ≡ (length self.now.items == 0) }
+        ensures { result ≡ (count_of self.now.log == 0) }
     {
-        self.entries.is_empty()
+        self.len() == 0
     }
 
-    /// All of them, in order.
-    pub fn as_slice(&self) -> &[KeptEntry]
-        ensures { result.now ≡ self.now.items }
+    /// Keeps each entry that comes from now on.
+    pub fn follow(&mut self)
+        ensures { self.new.log ≡ record self.old.log { is_followed = true } }
     {
-        self.entries.as_slice()
+        self.is_followed = true;
+    }
+
+    /// The entry at a position, counted from 0, if it is kept.
+    pub fn get(&self, at: usize) -> Option<&KeptEntry>
+        ensures { IfSome result (λ e. (self.now.log.first ≤ at) × (slice_get self.now.log.kept (at - self.now.log.first) ≡ Some e.now)) }
+    {
+        if at < self.first {
+            return None;
+        }
+        self.kept.get(at - self.first)
+    }
+
+    /// Those that were stored after so many.
+    pub fn since(&self, count: usize) -> &[KeptEntry]
+        requires there { self.now.log.first ≤ count }
+        requires within { count ≤ count_of self.now.log }
+        ensures { result.now ≡ stored_since self.now.log count }
+    {
+        &self.kept.as_slice()[count - self.first..]
     }
 
     /// Whether one that was stored since a touch changes a row of the touched table. Looks at none of them.
     pub fn is_changed_since(&self, touch: &Touch) -> bool
-        ensures { result ≡ is_changed_since self.now.items touch.now }
+        ensures { result ≡ tells_change self.now.log.last touch.now }
     {
         touch.stored < last_change(self.last_changed.as_slice(), touch.table)
+    }
+
+    // Makes memory to keep one more, if somebody follows.
+    fn reserve_one(&mut self) -> Result<(), Refusal>
+        ensures ok { OnOk result (self.new.log.is_followed ≡ true → 0 < self.new.room) }
+        ensures err { IfErr result (λ e. e ≡ Refusal.OutOfMemory) }
+        ensures log { self.new.log ≡ self.old.log }
+    {
+        if !self.is_followed {
+            return Ok(());
+        }
+        self.kept.reserve(1)?;
+        Ok(())
     }
 
     /// Makes memory for one more. Refuses for want of it.
     pub fn reserve(&mut self, kept: &KeptEntry) -> Result<(), Refusal>
         ensures ok { OnOk result (HasPlaceFor self.new kept.now) }
         ensures err { IfErr result (λ e. e ≡ Refusal.OutOfMemory) }
-        ensures items { self.new.items ≡ self.old.items }
+        ensures log { self.new.log ≡ self.old.log }
     {
-        self.entries.reserve(1)?;
+        if self.len() == usize::MAX {
+            return Err(Refusal::OutOfMemory);
+        }
+        self.reserve_one()?;
         reserve_tables(&mut self.last_changed, kept.changes())
     }
 
-    /// Adds one for which memory was made. Takes none.
+    /// Adds one for which memory was made. It is kept if somebody follows. Takes no memory.
     pub fn push_reserved(&mut self, kept: KeptEntry)
         requires { HasPlaceFor self.old kept }
-        ensures { self.new.items ≡ self.old.items ++ kept ∷ [] }
+        ensures { HasStoredNext self.old.log kept self.new.log }
     {
-        note(
-            &mut self.last_changed,
-            kept.changes(),
-            self.entries.len() + 1,
-        );
-        self.entries.push_reserved(kept);
+        let count = self.len() + 1;
+        note(&mut self.last_changed, kept.changes(), count);
+        if self.is_followed {
+            self.kept.push_reserved(kept);
+        } else {
+            self.first = count;
+            self.kept.clear();
+        }
     }
 }

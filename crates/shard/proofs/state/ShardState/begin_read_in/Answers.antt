@@ -83,5 +83,5 @@ invariant_of-self g c =
     let rows = c.rows_in.ensures.unchanged in (
       same_contents _ _ c.self.inside.seat c.self.inside.contents _ c.self.invariant.0 refl rows refl refl refl refl,
       c.self.invariant.1,
-      subst (λ (db : Database). AllHadRows c.self.inside.contents.stored.items db c.self.inside.sorted) (sym rows) c.self.invariant.2,
+      subst (λ (db : Database). AllHadRows c.self.inside.contents.stored.log db c.self.inside.sorted) (sym rows) c.self.invariant.2,
     )

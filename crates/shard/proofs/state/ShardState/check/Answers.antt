@@ -1,6 +1,6 @@
 use Rattle.std.proofs.Common.{◌≡◌, true, false, sym, ◌∙◌}
 use Rattle.std.proofs.lemmas.Bool.{false≢true}
-use Rattle.shard_contents.specs.inner.KeptConflicts.{is_conflict_since}
+use Rattle.shard_contents.specs.inner.LastChanges.{tells_conflict}
 use Rattle.shard_contents.proofs.Looks.{clear_seen, conflict_seen, moved_seen}
 use Rattle.shard.proofs.state.ShardState.check.Goals as goal
 
@@ -11,12 +11,12 @@ returns-then-not-takes-clause-err g c =
 
 pub returns-then-is_conflict-clause-err : goal.returns-then-is_conflict-clause-err
 returns-then-is_conflict-clause-err g c =
-    let found : is_conflict_since c.self.inside.contents.stored.items c.args.tx.now.touched ≡ true = sym c.is_conflict.ensures ∙ c.if-is_conflict.true in
+    let found : tells_conflict c.self.inside.contents.stored.log.last c.args.tx.now.touched ≡ true = sym c.is_conflict.ensures ∙ c.if-is_conflict.true in
     conflict_seen g.W.World.opening g.W.World.limits c.self.inside.seat c.self.inside.contents c.self.invariant.0 c.args.tx.now _ c.self.view_is c.args.self.now.shard
     c.look-entries.ensures.shard (c.takes.ensures.0 c.if-not-takes.false) found
 
 pub returns-clause-clear : goal.returns-clause-clear
 returns-clause-clear g c =
-    let none : is_conflict_since c.self.inside.contents.stored.items c.args.tx.now.touched ≡ false = sym c.is_conflict.ensures ∙ c.if-is_conflict.false in
+    let none : tells_conflict c.self.inside.contents.stored.log.last c.args.tx.now.touched ≡ false = sym c.is_conflict.ensures ∙ c.if-is_conflict.false in
     clear_seen g.W.World.opening g.W.World.limits c.self.inside.seat c.self.inside.contents c.self.invariant.0 c.args.tx.now _ c.self.view_is c.args.self.now.shard
     c.look-entries.ensures.shard (c.takes.ensures.0 c.if-not-takes.false) none

@@ -11,6 +11,7 @@ use Rattle.shard_law.specs.Entries.{commit_of, seat_view}
 use Rattle.shard_contents.specs.Transactions as t
 use Rattle.shard_contents.specs.KeptEntries.{kept_of}
 use Rattle.shard_contents.proofs.States.{same_contents, names_none, lives_if}
+use Rattle.shard_contents.specs.inner.StoredLogs.{StoredLog, HasStoredNext}
 use Rattle.shard_contents.proofs.Earlier.{all_had_next, all_had_same}
 use Rattle.shard.proofs.StepsIn as steps
 use Rattle.shard_run.proofs.Sent.{entry_send}
@@ -56,6 +57,10 @@ append-requires-clause-lawful g c κs within run next =
     (seat_view c.args.self.now) c.args.pass.now c.check.new.pass c.args.tx.now l.seen l.pass c.requires.tied l.clear c.unwrap.result c.statements.result mine low
     run next c.in_ok-prepared.prepared.entry c.in_ok-prepared.ensures.entry
 
+grown : (g : _) (c : goal.After-take g) → HasStoredNext c.self.inside.contents.stored.log (kept_of c.in_ok-prepared.prepared.entry) c.take.new.self.stored.log
+grown g c =
+    subst (λ (l : StoredLog). HasStoredNext l (kept_of c.in_ok-prepared.prepared.entry) c.take.new.self.stored.log) c.in_ok-prepared.ensures.stored c.take.ensures.stored
+
 left : (g : _) (c : goal.After-take g)
     → steps.Left g.W.World.opening g.W.World.limits c.args.self.now.shard c.append.new.self c.take.new.self c.args.pass.now c.args.tx.now c.append.new.pass
     c.args.self.now.seen
@@ -72,7 +77,7 @@ left g c =
     a.seen.2 a.seat a.pass a.legal c.in_ok-entries.entries l.entries ok.limits (t.shard ∙ ok.shard)
     (subst (λ (db : Database). SameRows c.take.new.self.store.rows (all_applied c.args.tx.now.changes db)) ok.rows
     (subst (λ (x : List RowChange). SameRows c.take.new.self.store.rows (all_applied x c.prepare_in.new.self.store.rows)) ok.changes t.rows))
-    (t.stored ∙ ap (λ (x : List (List RowChange)). x ++ kept_of c.in_ok-prepared.prepared.entry ∷ []) ok.stored) (ap (λ v. v.items) t.steps ∙ ok.steps) (t.mode ∙ ok.mode) (t.limits ∙ ok.same_limits)
+    (grown g c) (ap (λ v. v.items) t.steps ∙ ok.steps) (t.mode ∙ ok.mode) (t.limits ∙ ok.same_limits)
 
 pub invariant_of-self : goal.invariant_of-self
 invariant_of-self g c =
@@ -91,12 +96,11 @@ invariant_of-self-2 g c =
       is.is_now,
       names_none g.W.World.opening c.append.new.self.seen c.take.new.self.shard c.self.inside.targets
           (lives_if (mode g.W.World.opening c.append.new.self.seen c.take.new.self.shard.slot) (ap answers_queries is.serves_now)),
-      all_had_same _ _ _ _ c.self.inside.sorted (t.stored ∙ ap (λ (x : List (List RowChange)). x ++ kept_of e ∷ []) ok.stored) refl
-          (all_had_next c.self.inside.contents.stored.items (kept_of e) c.self.inside.contents.store.rows c.take.new.self.store.rows c.self.inside.sorted
+      all_had_next c.self.inside.contents.stored.log c.take.new.self.stored.log (kept_of e) c.self.inside.contents.store.rows c.take.new.self.store.rows c.self.inside.sorted
           (subst (λ (x : List RowChange). SameRows c.take.new.self.store.rows (all_applied x c.self.inside.contents.store.rows))
           (sym (ap (λ (x : Entry). stored_changes x.event) ok.entry))
           (subst (λ (db : Database). SameRows c.take.new.self.store.rows (all_applied c.args.tx.now.changes db)) ok.rows
-          (subst (λ (x : List RowChange). SameRows c.take.new.self.store.rows (all_applied x c.prepare_in.new.self.store.rows)) ok.changes t.rows))) c.self.invariant.2),
+          (subst (λ (x : List RowChange). SameRows c.take.new.self.store.rows (all_applied x c.prepare_in.new.self.store.rows)) ok.changes t.rows))) (grown g c) c.self.invariant.2,
     )
 
 pub returns-clause-committed : goal.returns-clause-committed

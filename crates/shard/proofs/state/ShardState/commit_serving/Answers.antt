@@ -21,6 +21,7 @@ use Rattle.vschema.specs.declared.changes.RowChange.{RowChange}
 use Rattle.journal.specs.Runs.{NumbersBelow}
 use Rattle.vschema.specs.Database.{Database, SameRows, all_applied}
 use Rattle.sql_eval.specs.Writes.{changes_of}
+use Rattle.shard_contents.specs.inner.StoredLogs.{StoredLog, HasStoredNext}
 use Rattle.shard_contents.proofs.Earlier.{all_had_next, all_had_same}
 use Rattle.shard.proofs.Steps as steps
 use Rattle.shard_run.proofs.Sent.{entry_send}
@@ -113,6 +114,10 @@ append-requires-clause-lawful g c κs within run next =
     c.look-entries.new.pass c.self.invariant.0 (inside g.W.World.opening _ _ _ c.self.view_is c.requires.serving) l.seen l.seat l.pass c.args.write (held_changes c.in_ok-prepared.prepared.entry.event) c.unwrap.result c.statements.result
     c.in_ok-prepared.prepared.entry ok.entry is.changed c.requires.typed is.placed is.mine run next low
 
+grown : (g : _) (c : goal.After-take g) → HasStoredNext c.self.inside.contents.stored.log (kept_of c.in_ok-prepared.prepared.entry) c.take.new.self.stored.log
+grown g c =
+    subst (λ (l : StoredLog). HasStoredNext l (kept_of c.in_ok-prepared.prepared.entry) c.take.new.self.stored.log) c.in_ok-prepared.ensures.stored c.take.ensures.stored
+
 left : (g : _) (c : goal.After-take g)
     → steps.Left g.W.World.opening g.W.World.limits c.self.inside.seat c.append.new.self c.self.inside.contents c.take.new.self c.args.pass.now
     c.append.new.pass c.args.write c.take.result
@@ -131,7 +136,7 @@ left g c =
     c.take.new.self c.take.result a.seen.2 a.seat a.pass c.statements.ensures a.legal c.look-entries.result l.count ok.limits (t.count ∙ ok.count)
     (t.shard ∙ ok.shard)
     (subst (λ (db : Database). SameRows c.take.new.self.store.rows (all_applied (held_changes c.in_ok-prepared.prepared.entry.event) db)) ok.rows t.rows)
-    (t.stored ∙ ap (λ (l : List (List RowChange)). l ++ kept_of c.in_ok-prepared.prepared.entry ∷ []) ok.stored) (ap (λ v. v.items) t.steps ∙ ok.steps) (t.mode ∙ ok.mode) (t.limits ∙ ok.same_limits)
+    (grown g c) (ap (λ v. v.items) t.steps ∙ ok.steps) (t.mode ∙ ok.mode) (t.limits ∙ ok.same_limits)
 
 pub invariant_of-self-2 : goal.invariant_of-self-2
 invariant_of-self-2 g c =
@@ -141,11 +146,10 @@ invariant_of-self-2 g c =
     let e = c.in_ok-prepared.prepared.entry in (
       is.is_now,
       names_none g.W.World.opening c.append.new.self.seen c.take.new.self.shard c.self.inside.targets (lives_if (mode g.W.World.opening c.append.new.self.seen c.take.new.self.shard.slot) (ap answers_queries is.serves_now)),
-      all_had_same _ _ _ _ c.self.inside.sorted (t.stored ∙ ap (λ (l : List (List RowChange)). l ++ kept_of e ∷ []) ok.stored) refl
-          (all_had_next c.self.inside.contents.stored.items (kept_of e) c.self.inside.contents.store.rows c.take.new.self.store.rows c.self.inside.sorted
+      all_had_next c.self.inside.contents.stored.log c.take.new.self.stored.log (kept_of e) c.self.inside.contents.store.rows c.take.new.self.store.rows c.self.inside.sorted
           (subst (λ (l : List RowChange). SameRows c.take.new.self.store.rows (all_applied l c.self.inside.contents.store.rows))
           (sym (ap (λ (x : Entry). stored_changes x.event) ok.entry))
-          (subst (λ (db : Database). SameRows c.take.new.self.store.rows (all_applied (held_changes e.event) db)) ok.rows t.rows)) c.self.invariant.2),
+          (subst (λ (db : Database). SameRows c.take.new.self.store.rows (all_applied (held_changes e.event) db)) ok.rows t.rows)) (grown g c) c.self.invariant.2,
     )
 
 pub returns-clause-committed : goal.returns-clause-committed

@@ -21,7 +21,7 @@ use Rattle.shard_contents.proofs.StepRoom.{copy_by_entries}
 use Rattle.shard_contents.specs.inner.Copying.{has_room_to_copy}
 use Rattle.shard_run.specs.Openings.{row_count}
 use Rattle.shard_run.proofs.Sent.{entry_send}
-use Rattle.shard_contents.specs.inner.LastChanges.{StoredView}
+use Rattle.shard_contents.specs.inner.StoredLogs.{StoredView}
 use Rattle.shard.proofs.state.ShardState.copy.Goals as goal
 
 pub append-requires-send-L-Entry : goal.append-requires-send-L-Entry
@@ -120,7 +120,7 @@ invariant_of-self-2 g c =
           (ap (λ (s : SeatView Entry). s.slot) a.seat) shard_is
           (subst (λ (db : Database). SameRows c.take_copy.new.self.store.rows (all_applied (map (Added taken.table) taken.rows) db)) ok.rows
           (subst (λ (l : List RowChange). SameRows c.take_copy.new.self.store.rows (all_applied l c.prepare_copy.new.self.store.rows)) (ap (λ (e : Entry). held_changes e.event) ok.entry) t.rows))
-          (t.mode ∙ ok.mode) (ap (λ (v : StoredView). v.items) t.stored ∙ ok.stored)
+          (t.mode ∙ ok.mode) (ap (λ (v : StoredView). v.log) t.stored ∙ ok.stored)
           (t.steps ∙ ap (keep c.in_ok-prepared.prepared.step) ok.steps ∙ ap (λ (s : TargetStep). keep s had.steps.items) ok.step)
           (t.limits ∙ ok.same_limits) (omega (arith, count, few)),
       names_none o c.append.new.self.seen c.take_copy.new.self.shard c.self.inside.targets

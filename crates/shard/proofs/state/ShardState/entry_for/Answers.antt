@@ -16,7 +16,7 @@ stored : (g : _) (c : goal.After-changes g)
     → (e : Entry) × (slice_get (stored_on c.args.self.now.shard.slot c.args.self.now.seen) c.args.at ≡ Some e) × (kept_of e ≡ c.changes.result.now)
 stored g c =
     let told = entry_told g.W.World.opening g.W.World.limits c.self.inside.seat.seen c.self.inside.contents c.args.self.now c.self.invariant.0.keeps c.self.view_is
-    c.requires.lives c.as_slice-stored.result.now c.as_slice-stored.ensures c.args.at c.index-stored-at.result c.if-at-stored.false c.index-stored-at.is in
+    c.requires.lives c.args.at c.in-Some.entry.now c.in-Some.ensures in
     (told.0, told.1, told.2 ∙ sym c.changes.ensures)
 
 pub restricted_changes-requires : goal.restricted_changes-requires
@@ -31,7 +31,7 @@ restricted_changes-requires g c =
 pub returns-clause-entry : goal.returns-clause-entry
 returns-clause-entry g c =
     let told = entry_told g.W.World.opening g.W.World.limits c.self.inside.seat.seen c.self.inside.contents c.args.self.now c.self.invariant.0.keeps c.self.view_is
-    c.requires.lives c.as_slice-stored.result.now c.as_slice-stored.ensures c.args.at c.index-stored-at.result c.if-at-stored.false c.index-stored-at.is in (
+    c.requires.lives c.args.at c.in-Some.entry.now c.in-Some.ensures in (
       refl,
       record {
         of_source = c.slot.ensures.slot;

@@ -21,6 +21,7 @@ use Rattle.shard_contents.proofs.Follows as f
 use Rattle.shard_contents.proofs.StepRoom.{room_by_entries}
 use Rattle.shard_contents.proofs.Legality.{legal_is}
 use Rattle.shard_contents.specs.inner.Transactions.{has_room_for}
+use Rattle.shard_contents.specs.inner.StoredLogs.{StoredLog, count_of, HasStoredNext}
 use Rattle.shard_law.specs.Law.{SourcesApart}
 use Rattle.shard_run.specs.Openings.{row_count}
 use Rattle.shard_run.proofs.Sent.{entry_send}
@@ -79,7 +80,7 @@ invariant_of-self-2 g c =
     c.args.self.now c.self.view_is c.requires.following in
     let count = f.count_is o most c.self.inside.seat seat had c.self.inside.targets c.args.pass.now c.look-entries.new.pass c.self.invariant l.seen l.seat l.pass
     c.args.self.now c.self.view_is c.requires.following c.look-entries.result l.count in
-    let few = room_by_entries had.limits c.look-entries.result (length had.stored.items) (row_count had.store.rows) c.as_slice-changes.result.now
+    let few = room_by_entries had.limits c.look-entries.result (count_of had.stored.log) (row_count had.store.rows) c.as_slice-changes.result.now
     (sym c.has_room_for.ensures ∙ c.if-not-has_room_for.false) in
     let ends = a.seen.2 ∙ ap (λ (e : Entry). a.seen.0 ++ e ∷ []) ok.entry in
     let shard_is = t.shard ∙ ok.shard in
@@ -89,7 +90,8 @@ invariant_of-self-2 g c =
           (subst (λ (db : Database). SameRows c.take_step.new.self.store.rows (all_applied c.args.taken.changes db)) ok.rows
           (subst (λ (l : List RowChange). SameRows c.take_step.new.self.store.rows (all_applied l c.prepare_follow.new.self.store.rows)) changes t.rows))
           (t.mode ∙ ok.mode)
-          (t.stored ∙ ap (λ (l : List (List RowChange)). l ++ kept_of c.in_ok-step.step.entry ∷ []) ok.stored ∙ ap (λ (e : Entry). had.stored.items ++ kept_of e ∷ []) ok.entry)
+          (subst (λ (e : Entry). HasStoredNext had.stored.log (kept_of e) c.take_step.new.self.stored.log) ok.entry
+          (subst (λ (l : StoredLog). HasStoredNext l (kept_of c.in_ok-step.step.entry) c.take_step.new.self.stored.log) ok.stored t.stored))
           (t.steps ∙ ap (keep (Followed c.args.taken.source c.args.taken.log_position)) ok.steps)
           (t.limits ∙ ok.same_limits) (omega (arith, count, few)),
       names_none o c.append.new.self.seen c.take_step.new.self.shard c.self.inside.targets
@@ -114,9 +116,9 @@ returns-then-not-has_room_for-clause-err g c =
     inr (
       refl,
       f.passes g.W.World.opening g.W.World.limits c.self.inside.seat c.look-entries.new.self had c.self.inside.targets c.args.pass.now c.look-entries.new.pass
-          c.self.invariant l.seen l.seat l.pass c.args.self.now c.self.view_is c.requires.following c.args.taken c.requires.next c.look-entries.result (length had.stored.items)
+          c.self.invariant l.seen l.seat l.pass c.args.self.now c.self.view_is c.requires.following c.args.taken c.requires.next c.look-entries.result (count_of had.stored.log)
           l.count refl
-          (subst (λ (x : List RowChange). has_room_for had.limits c.look-entries.result (length had.stored.items) (row_count had.store.rows) x ≡ false)
+          (subst (λ (x : List RowChange). has_room_for had.limits c.look-entries.result (count_of had.stored.log) (row_count had.store.rows) x ≡ false)
           c.as_slice-changes.ensures no),
     )
 
@@ -152,8 +154,8 @@ returns-clause-rows g c apart =
     let count = f.held_then o most c.self.inside.seat c.look-entries.new.self had c.self.inside.targets c.args.pass.now c.look-entries.new.pass c.self.invariant l.seen
     l.seat l.pass c.args.self.now c.self.view_is c.requires.following taken c.requires.next run a.seen.1 in
     let fits = f.fits o most c.self.inside.seat c.look-entries.new.self had c.self.inside.targets c.args.pass.now c.look-entries.new.pass c.self.invariant l.seen
-    l.seat l.pass c.args.self.now c.self.view_is c.requires.following taken c.requires.next c.look-entries.result (length had.stored.items)
-    (subst (λ (x : List RowChange). has_room_for had.limits c.look-entries.result (length had.stored.items) (row_count had.store.rows) x ≡ true)
+    l.seat l.pass c.args.self.now c.self.view_is c.requires.following taken c.requires.next c.look-entries.result (count_of had.stored.log)
+    (subst (λ (x : List RowChange). has_room_for had.limits c.look-entries.result (count_of had.stored.log) (row_count had.store.rows) x ≡ true)
     c.as_slice-changes.ensures (sym c.has_room_for.ensures ∙ c.if-not-has_room_for.false)) in
     subst (λ (s : ShardRecord). row_count (shard_rows o c.append.new.pass.seen s) ≤ most.rows) shard_is
     (follow_within o most c.self.invariant.0.opens run (legal_is o run a.seen.1.legal) had.shard taken may c.append.new.pass.seen ends

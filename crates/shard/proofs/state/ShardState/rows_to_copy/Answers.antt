@@ -7,7 +7,9 @@ use Rattle.shard_run.specs.Runs.{mode, answers_queries, stored_on}
 use Rattle.shard_law.specs.Entries.{ShardView, MayFollow}
 use Rattle.shard_contents.specs.Copying.{IsCopyFor}
 use Rattle.shard_contents.proofs.Legality.{legal_is}
-use Rattle.shard_contents.proofs.States.{holds_of, lives_if}
+use Rattle.shard_contents.specs.inner.StoredLogs.{StoredLog}
+use Rattle.shard_contents.proofs.Earlier.{all_had_followed}
+use Rattle.shard_contents.proofs.States.{holds_of, lives_if, followed_contents}
 use Rattle.shard_contents.proofs.CopySteps.{copy_for, first_as, table_is}
 use Rattle.shard.proofs.state.ShardState.rows_to_copy.Goals as goal
 
@@ -22,6 +24,26 @@ first_wanted-requires-clause-there g c =
     let there = c.requires.there in
     let schemas = ap (λ (s : VSchema). length s.tables) c.requires.schema in
     omega (arith, tables, there, schemas)
+
+pub first_wanted-requires-clause-followed : goal.first_wanted-requires-clause-followed
+first_wanted-requires-clause-followed g c = ap (λ (l : StoredLog). l.is_followed) c.follow.ensures
+
+pub first_wanted-requires-clause-had : goal.first_wanted-requires-clause-had
+first_wanted-requires-clause-had g c = all_had_followed _ _ _ _ c.follow.ensures c.self.invariant.2
+
+pub invariant_of-self : goal.invariant_of-self
+invariant_of-self g c = (
+  followed_contents _ _ _ c.self.inside.contents _ c.self.invariant.0 refl refl refl c.follow.ensures refl refl,
+  c.self.invariant.1,
+  c.first_wanted.ensures.had,
+)
+
+pub invariant_of-self-2 : goal.invariant_of-self-2
+invariant_of-self-2 g c = (
+  followed_contents _ _ _ c.self.inside.contents _ c.self.invariant.0 refl refl refl c.follow.ensures refl refl,
+  c.self.invariant.1,
+  c.first_wanted.ensures.had,
+)
 
 pub returns-clause-copy : goal.returns-clause-copy
 returns-clause-copy g c =

@@ -12,7 +12,7 @@ invariant_of-self g c =
     let rows = c.snapshot.ensures.rows in (
       same_contents _ _ c.look-entries.new.self c.self.inside.contents _ l.is refl rows refl refl refl refl,
       l.names,
-      subst (λ (db : Database). AllHadRows c.self.inside.contents.stored.items db c.self.inside.sorted) (sym rows) c.self.invariant.2,
+      subst (λ (db : Database). AllHadRows c.self.inside.contents.stored.log db c.self.inside.sorted) (sym rows) c.self.invariant.2,
     )
 
 pub invariant_of-self-2 : goal.invariant_of-self-2
@@ -21,7 +21,7 @@ invariant_of-self-2 g c =
     let rows = c.snapshot.ensures.rows in (
       same_contents _ _ c.look-entries.new.self c.self.inside.contents _ l.is refl rows refl refl refl refl,
       l.names,
-      subst (λ (db : Database). AllHadRows c.self.inside.contents.stored.items db c.self.inside.sorted) (sym rows) c.self.invariant.2,
+      subst (λ (db : Database). AllHadRows c.self.inside.contents.stored.log db c.self.inside.sorted) (sym rows) c.self.invariant.2,
     )
 
 pub returns-clause-snapshot : goal.returns-clause-snapshot

@@ -9,15 +9,15 @@ use Rattle.shard_contents.proofs.sorted.SortedTables.first_wanted.Goals as goal
 
 pub returns-in_err-keep-clause-had : goal.returns-in_err-keep-clause-had
 returns-in_err-keep-clause-had c =
-    let stored = c.args.contents.now.stored.items in
+    let log = c.args.contents.now.stored.log in
     let now = c.args.contents.now.store.rows in
-    c.keep.ensures.had stored now (had_now stored now c.args.next.now.table c.in_ok-sorted.sorted c.in_ok-sorted.ensures.ok) c.take_current.ensures.had
+    c.keep.ensures.had log now (had_now log now c.args.next.now.table c.in_ok-sorted.sorted c.requires.followed c.in_ok-sorted.ensures.ok) c.take_current.ensures.had
 
 pub returns-clause-had : goal.returns-clause-had
 returns-clause-had c =
-    let stored = c.args.contents.now.stored.items in
+    let log = c.args.contents.now.stored.log in
     let now = c.args.contents.now.store.rows in
-    c.keep.ensures.had stored now (had_now stored now c.args.next.now.table c.in_ok-sorted.sorted c.in_ok-sorted.ensures.ok) c.take_current.ensures.had
+    c.keep.ensures.had log now (had_now log now c.args.next.now.table c.in_ok-sorted.sorted c.requires.followed c.in_ok-sorted.ensures.ok) c.take_current.ensures.had
 
 pub returns-clause-ok : goal.returns-clause-ok
 returns-clause-ok c =

@@ -12,8 +12,8 @@ returns-clause-taken c =
     let at = position-Some (λ (x : EarlierTable). x.table == c.args.place) all c.in_ok-at.at t (sym c.ordinal_of.ensures ∙ c.in_ok-at.was) in
     let is : t ≡ get_or all c.in_ok-at.at t = c.remove.ensures.value ∙ ap (λ (l : List EarlierTable). get_or l c.in_ok-at.at t) (sym c.as_slice.ensures.value) in (
       eqb-true t.table c.args.place (ap (λ (x : EarlierTable). x.table == c.args.place) is ∙ at.1),
-      λ stored now had.
-          subst (HadRows stored now) (sym is)
-          (all-at (HadRows stored now) all c.in_ok-at.at t at.0
-          (subst (AllHadRows stored now) (sym c.self.view_is ∙ sym c.as_slice.ensures.value) had)),
+      λ log now had.
+          subst (HadRows log now) (sym is)
+          (all-at (HadRows log now) all c.in_ok-at.at t at.0
+          (subst (AllHadRows log now) (sym c.self.view_is ∙ sym c.as_slice.ensures.value) had)),
     )
