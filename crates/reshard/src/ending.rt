@@ -11,9 +11,16 @@ ghost use Rattle.reshard_cutover.specs.Looks.{HasThawed, IsServingAgain};
 use crate::workflow::{Stage, Workflow};
 use buffer::Buffer;
 use journal::Naming;
-use reshard_cutover::{ReshardFault, TargetShard, unfreeze_all};
+use reshard_cutover::{ReshardFault, SourceShard, TargetShard, unfreeze_all};
 use shard::{ShardPass, World};
 use std::sync::Wait;
+
+// Has each source give up what it keeps for the targets, which ask for it no more.
+fn unfollow_all<W: World, J: Naming>(rt: &impl Wait, sources: &[SourceShard<W, J>]) {
+    for source in sources {
+        source.member.shard.lock(rt).unfollow();
+    }
+}
 
 // Marks each target, so that no controller takes it up again.
 fn mark_given_up<W: World, J: Naming>(rt: &impl Wait, targets: &[TargetShard<W, J>]) {
@@ -74,6 +81,7 @@ impl<W: World, J: Naming> Workflow<W, J> {
         }
         unfreeze_all(rt, self.sources.as_slice(), pass);
         mark_given_up(rt, self.targets.as_slice());
+        unfollow_all(rt, self.sources.as_slice());
         self.forget();
         buffer.release(rt);
         Ok(())

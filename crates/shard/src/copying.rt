@@ -331,6 +331,15 @@ impl<W: World, J: Naming> ShardState<W, J> {
         self.sorted.clear();
     }
 
+    /// Gives up what it keeps for targets, as when none of them follows it any more: what its entries changed, and the tables in order. Takes
+    /// no memory.
+    pub fn unfollow(&mut self)
+        ensures { self.new ≡ self.old }
+    {
+        self.sorted.clear();
+        self.contents.stored.unfollow();
+    }
+
     // Promise: A Copy is exactly one entry, after a look. It is done only if the target had fewer than 2^40 entries, and has no more rows
     // then than it may. It is refused for want of memory, or if it passes one of these limits (F24): for rows only if the target would
     // have more than it may, with that entry after the run. A refused one could have come next, and appended nothing

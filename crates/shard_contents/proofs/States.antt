@@ -25,8 +25,8 @@ use Rattle.shard_contents.specs.KeptEntries.{kept_of, entries_kept}
 use Rattle.shard_law.specs.Entries.{ShardView, slot_of, commit_of, MayFollow}
 use Rattle.shard_contents.specs.Shards.{RetiredFor, Holds, Keeps, holds, dropped, IsAfter, beyond}
 use Rattle.shard_contents.proofs.Legality.{stands-same}
-use Rattle.shard_contents.specs.inner.StoredLogs.{HasStored}
-use Rattle.shard_contents.proofs.StoredLogs.{same_log, followed}
+use Rattle.shard_contents.specs.inner.StoredLogs.{given_up, HasStored}
+use Rattle.shard_contents.proofs.StoredLogs.{same_log, followed, unfollowed}
 
 filter_both : {X : Type 0} (f g : X → Bool) (xs : List X) → filter (λ x. f x && g x) xs ≡ filter g (filter f xs)
 filter_both f g [] = refl
@@ -126,6 +126,13 @@ pub followed_contents : (o : Opening) (limits : Limits) (seat : SeatView Entry) 
     → d.limits ≡ c.limits → IsAfter o limits seat d
 followed_contents o limits seat c d is shards rows modes stores came most =
     alike o limits seat c d is shards rows modes (λ all h. followed c.stored.log d.stored.log all stores h) came most
+
+-- and that keep nothing of what was stored
+pub unfollowed_contents : (o : Opening) (limits : Limits) (seat : SeatView Entry) (c d : Contents) → IsAfter o limits seat c → d.shard ≡ c.shard
+    → d.store.rows ≡ c.store.rows → d.mode ≡ c.mode → d.stored.log ≡ given_up c.stored.log → d.steps.items ≡ c.steps.items
+    → d.limits ≡ c.limits → IsAfter o limits seat d
+unfollowed_contents o limits seat c d is shards rows modes stores came most =
+    alike o limits seat c d is shards rows modes (λ all h. unfollowed c.stored.log d.stored.log all stores h) came most
 
 -- a shard that isn't retired holds what the run leaves on it
 pub holds_of : (o : Opening) (limits : Limits) (run : Run) (c : Contents) → Keeps o limits run c → (mode o run c.shard.slot ≡ Retired → ⊥) → Holds o limits run c

@@ -8,7 +8,7 @@ use Rattle.vschema.specs.declared.changes.RowChange.{RowChange}
 use Rattle.shard_contents.specs.declared.touched_table.Touch.{Touch}
 use Rattle.shard_contents.specs.inner.KeptConflicts.{keeps_table, is_changed_since, is_conflict_since}
 use Rattle.shard_contents.specs.inner.LastChanges.{last_change, tells_change, tells_conflict, TellLastChanges}
-use Rattle.shard_contents.specs.inner.StoredLogs.{StoredLog, nothing_stored, count_of, HasStored, HasStoredNext}
+use Rattle.shard_contents.specs.inner.StoredLogs.{StoredLog, nothing_stored, count_of, given_up, HasStored, HasStoredNext}
 use Rattle.shard_contents.proofs.ChangesSince.{tell_next}
 
 pub count_is : (log : StoredLog) (all : List (List RowChange)) → HasStored log all → count_of log ≡ length all
@@ -91,6 +91,13 @@ stored_next log now all e h next = by log.is_followed refl
 pub followed : (log now : StoredLog) (all : List (List RowChange)) → now ≡ record log { is_followed = true } → HasStored log all → HasStored now all
 followed log now all is h =
     same_log (record log { is_followed = true }) now all all is refl (record { within = h.within; kept = h.kept; last = h.last })
+
+-- none is kept any more
+pub unfollowed : (log now : StoredLog) (all : List (List RowChange)) → now ≡ given_up log → HasStored log all → HasStored now all
+unfollowed log now all is h =
+    let count = count_is log all h in
+    same_log (given_up log) now all all is refl
+    (record { within = omega (arith, count); kept = sym (drop_all (count_of log) all (omega (arith, count))); last = h.last })
 
 -- ---- what the log tells
 

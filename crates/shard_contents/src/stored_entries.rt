@@ -5,7 +5,7 @@ ghost use Rattle.std.specs.List.{AllByRecursion};
 ghost use Rattle.vschema.specs.Database.{changed_table};
 ghost use Rattle.shard_contents.specs.inner.KeptConflicts.{keeps_table};
 ghost use Rattle.shard_contents.specs.inner.LastChanges.{last_change, tells_change};
-ghost use Rattle.shard_contents.specs.inner.StoredLogs.{HasPlaceFor, HasStoredNext, nothing_stored, count_of, stored_since};
+ghost use Rattle.shard_contents.specs.inner.StoredLogs.{HasPlaceFor, HasStoredNext, nothing_stored, count_of, stored_since, given_up};
 
 use crate::kept_entry::KeptEntry;
 use crate::touched_table::Touch;
@@ -142,6 +142,15 @@ impl StoredEntries {
         ensures { self.new.log ≡ record self.old.log { is_followed = true } }
     {
         self.is_followed = true;
+    }
+
+    /// Gives up those that are kept, and keeps none that comes from now on. Takes no memory.
+    pub fn unfollow(&mut self)
+        ensures { self.new.log ≡ given_up self.old.log }
+    {
+        self.first = self.len();
+        self.kept = Vec::new(*self.kept.allocator());
+        self.is_followed = false;
     }
 
     /// The entry at a position, counted from 0, if it is kept.

@@ -22,6 +22,10 @@ nothing_stored = record { first = 0; kept = []; last = []; is_followed = false }
 abbrev pub count_of : StoredLog → ℕ
 count_of log = log.first + length log.kept
 
+-- none of them is kept, and none will be
+abbrev pub given_up : StoredLog → StoredLog
+given_up log = record { first = count_of log; kept = []; last = log.last; is_followed = false }
+
 -- those that were stored after so many
 abbrev pub stored_since : StoredLog → ℕ → List (List RowChange)
 stored_since log count = drop (count - log.first) log.kept

@@ -1,0 +1,11 @@
+use Rattle.std.proofs.Common.{refl}
+use Rattle.shard_contents.proofs.Earlier.{all_had_none}
+use Rattle.shard_contents.proofs.States.{unfollowed_contents}
+use Rattle.shard.proofs.state.ShardState.unfollow.Goals as goal
+
+pub invariant_of-self : goal.invariant_of-self
+invariant_of-self g c = (
+  unfollowed_contents _ _ _ c.self.inside.contents _ c.self.invariant.0 refl refl refl c.unfollow.ensures refl refl,
+  c.self.invariant.1,
+  all_had_none _ _ _ c.clear.ensures,
+)
