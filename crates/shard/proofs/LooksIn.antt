@@ -44,7 +44,7 @@ use Rattle.shard.proofs.Inside.{change_same}
 use Rattle.shard_contents.proofs.Legality.{legal_is}
 use Rattle.shard_contents.specs.inner.StoredLogs.{count_of}
 use Rattle.shard_contents.proofs.KeptStored.{length-kept}
-use Rattle.shard_contents.proofs.StoredLogs.{count_is}
+use Rattle.shard_contents.proofs.StoredLogs.{count-stored}
 use Rattle.shard.proofs.Pendings as then
 use Rattle.shard.proofs.SourceSums.{sources_summed}
 
@@ -117,7 +117,7 @@ module _ (o : Opening) (most : Limits) (seat : SeatView Entry) (c : Contents) (i
 
   pub stored_is : count_of c.stored.log ≡ length (stored_on s.slot v.seen)
   stored_is =
-      count_is _ _ (commits.has o most seat c is clear.serving).stored ∙ length-kept c.shard.slot seat.seen ∙ ap (λ (u : ShardRecord). length (stored_on u.slot seat.seen)) shard_is
+      count-stored _ _ (commits.has o most seat c is clear.serving).stored ∙ length-kept c.shard.slot seat.seen ∙ ap (λ (u : ShardRecord). length (stored_on u.slot seat.seen)) shard_is
       ∙ ap (λ (r : Run). length (stored_on s.slot r)) seen_is
 
   -- what a query gives over those with the seat it may give over those of the run

@@ -16,7 +16,7 @@ use Rattle.shard_contents.specs.KeptEntries.{kept_of, entries_kept}
 use Rattle.shard_contents.specs.inner.StoredLogs.{count_of}
 use Rattle.shard_contents.proofs.Kept.{kept_none}
 use Rattle.shard_contents.proofs.KeptStored.{none_kept}
-use Rattle.shard_contents.proofs.StoredLogs.{count_is}
+use Rattle.shard_contents.proofs.StoredLogs.{count-stored}
 use Rattle.shard_law.specs.Entries.{ShardView}
 use Rattle.shard_contents.specs.Shards.{Holds, Keeps, holds, dropped, IsAfter}
 
@@ -91,7 +91,7 @@ module _ (o : Opening) (most : Limits) (seat : SeatView Entry) (c : Contents) (v
       let h = still_holds o most seat.seen c after.keeps follows in
       no_entry (cond (is_opening o c.shard.slot) Serving Following) c.shard.slot seat.seen (sym h.mode ∙ follows)
       (kept_none (steps_on c.shard.slot seat.seen) (sym h.steps ∙ steps)) (none_kept (stored_on c.shard.slot seat.seen)
-      (nil_from_length (entries_kept c.shard.slot seat.seen) (sym (count_is c.stored.log (entries_kept c.shard.slot seat.seen) h.stored) ∙ stored)))
+      (nil_from_length (entries_kept c.shard.slot seat.seen) (sym (count-stored c.stored.log (entries_kept c.shard.slot seat.seen) h.stored) ∙ stored)))
 
   pub fresh : entries_on v.shard.slot v.seen ≡ []
   fresh = subst (λ (v : ShardView). entries_on v.shard.slot v.seen ≡ []) view fresh_here
@@ -135,7 +135,7 @@ module _ (o : Opening) (most : Limits) (seat : SeatView Entry) (c : Contents) (v
   follows = kept.mode ∙ follows_here
 
   pub nothing_stored : count_of c.stored.log ≡ 0
-  nothing_stored = count_is _ _ kept.stored ∙ ap length (ap (map kept_of) (none_stored c.shard.slot seat.seen none_here))
+  nothing_stored = count-stored _ _ kept.stored ∙ ap length (ap (map kept_of) (none_stored c.shard.slot seat.seen none_here))
 
   pub no_step : length c.steps.items ≡ 0
   no_step = ap length (kept.steps ∙ ap (λ (l : Run). kept_from [] (Rattle.std.specs.Prelude.flat_map (λ e. steps_of e.event) l)) none_here)

@@ -13,7 +13,7 @@ use Rattle.shard_law.specs.Entries.{ShardView}
 use Rattle.shard_contents.proofs.States.{holds_of}
 use Rattle.shard_contents.specs.inner.StoredLogs.{count_of}
 use Rattle.shard_contents.proofs.KeptStored.{length-kept}
-use Rattle.shard_contents.proofs.StoredLogs.{count_is}
+use Rattle.shard_contents.proofs.StoredLogs.{count-stored}
 use Rattle.shard_contents.specs.Shards.{Holds, Keeps, holds, dropped, IsAfter, RetiredFor}
 
 still_holds : (o : Opening) (most : Limits) (run : Run) (c : Contents) → Keeps o most run c → c.mode ≡ Retired → Holds o most run c
@@ -29,10 +29,10 @@ module _ (o : Opening) (most : Limits) (seat : SeatView Entry) (c : Contents) (v
 
   pub stored_last : count_of c.stored.log ≡ length (stored_on v.shard.slot v.seen)
   stored_last =
-      count_is _ _ (still_holds o most seat.seen c after.keeps is).stored ∙ length-kept c.shard.slot seat.seen ∙ ap (λ (v : ShardView). length (stored_on v.shard.slot v.seen)) view
+      count-stored _ _ (still_holds o most seat.seen c after.keeps is).stored ∙ length-kept c.shard.slot seat.seen ∙ ap (λ (v : ShardView). length (stored_on v.shard.slot v.seen)) view
 
 pub stored_told : (o : Opening) (most : Limits) (seat : SeatView Entry) (c : Contents) (v : ShardView) → IsAfter o most seat c
     → record { seen = seat.seen; shard = c.shard } ≡ v → (mode o v.seen v.shard.slot ≡ Retired → ⊥) → count_of c.stored.log ≡ length (stored_on v.shard.slot v.seen)
 stored_told o most seat c v after view lives =
     let has = holds_of o most seat.seen c after.keeps (λ retired. lives (ap (λ (x : ShardView). mode o x.seen x.shard.slot) (sym view) ∙ retired)) in
-    count_is _ _ has.stored ∙ length-kept c.shard.slot seat.seen ∙ ap (λ (x : ShardView). length (stored_on x.shard.slot x.seen)) view
+    count-stored _ _ has.stored ∙ length-kept c.shard.slot seat.seen ∙ ap (λ (x : ShardView). length (stored_on x.shard.slot x.seen)) view

@@ -45,7 +45,7 @@ use Rattle.shard_contents.proofs.Bags.{same_through, length-same, row_count-same
 use Rattle.shard_contents.specs.KeptEntries.{kept_of, entries_kept}
 use Rattle.shard_contents.proofs.KeptStored.{length-kept, kept_push}
 use Rattle.shard_contents.specs.inner.StoredLogs.{count_of, HasStored, HasStoredNext}
-use Rattle.shard_contents.proofs.StoredLogs.{count_is, same_log, stored_next}
+use Rattle.shard_contents.proofs.StoredLogs.{count-stored, same_log, stored_next}
 use Rattle.shard_contents.proofs.States.{held-same, mode-same, stored-same, holds_of, lives_if, entries-on}
 use Rattle.shard_contents.proofs.Legality.{stands-same, stands-next, part_held}
 use Rattle.shard_contents.proofs.Places.{rows_lie, changes_in}
@@ -160,7 +160,7 @@ module _ (o : Opening) (most : Limits) (seat : SeatView Entry) (c : Contents) (i
     stored_here = same_log _ _ _ _ refl (ap (map kept_of) (sym (stored-same o seat.seen run s here))) has.stored
 
     pub count_here : count_of c.stored.log ≡ length (stored_on s.slot run)
-    count_here = count_is _ _ stored_here ∙ length-kept s.slot run
+    count_here = count-stored _ _ stored_here ∙ length-kept s.slot run
 
     tested : (entries stored : ℕ) (w : Write) → entries ≡ length (entries_on seat.slot seat.seen) → stored ≡ count_of c.stored.log
         → has_room c.limits entries stored (row_count c.store.rows) w

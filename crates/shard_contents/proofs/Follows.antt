@@ -47,7 +47,7 @@ use Rattle.shard_contents.specs.inner.Transactions.{has_room_for}
 use Rattle.shard_contents.proofs.StepRoom.{IsNoRoomFor, no_room_for, room_by_rows, at_least}
 use Rattle.shard_contents.proofs.Bags.{row_count-same, same_through, length-same, all_applied-same}
 use Rattle.shard_contents.specs.inner.StoredLogs.{count_of, HasStoredNext}
-use Rattle.shard_contents.proofs.StoredLogs.{count_is, same_log, stored_next}
+use Rattle.shard_contents.proofs.StoredLogs.{count-stored, same_log, stored_next}
 use Rattle.shard_contents.proofs.States.{held-same, stored-same, holds_of, entries-on, after_look, mode_after_look, alone_here}
 use Rattle.shard_contents.proofs.Modes.{here, stands_there, mode_there}
 
@@ -221,7 +221,7 @@ module _ {X : Type 0} (o : Opening) (most : Limits) (seat looked : SeatView Entr
 
   pub stored_told : count_of c.stored.log ≡ length (stored_on v.shard.slot q.seen)
   stored_told =
-      count_is _ _ has_now.stored ∙ length-kept c.shard.slot looked.seen ∙ ap (λ (s : ShardRecord). length (stored_on s.slot looked.seen)) (ap (λ (x : ShardView). x.shard) view)
+      count-stored _ _ has_now.stored ∙ length-kept c.shard.slot looked.seen ∙ ap (λ (s : ShardRecord). length (stored_on s.slot looked.seen)) (ap (λ (x : ShardView). x.shard) view)
       ∙ ap (λ (r : Run). length (stored_on v.shard.slot r)) (sym seen_same)
 
   module _ (f : F.Follow) (next : IsNext o p.seen v f) where

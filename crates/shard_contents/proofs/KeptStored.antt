@@ -1,5 +1,5 @@
 -- What is kept of the entries that a run has stored: as many, and of each what it changes.
-use Rattle.std.proofs.Common.{◌≡◌, ℕ, zero, suc, ◌<◌, Bool, ◌&&◌, ◌||◌, ◌==◌, List, [], ◌∷◌, ◌++◌, map, drop, length, get_or, filter, Some, refl, sym, ap, ◌∙◌, arith}
+use Rattle.std.proofs.Common.{◌≡◌, ℕ, zero, suc, ◌<◌, Bool, ◌&&◌, ◌||◌, List, [], ◌∷◌, ◌++◌, map, drop, length, get_or, filter, Some, refl, sym, ap, ◌∙◌, arith}
 use Rattle.std.specs.Prelude.{slice_get}
 use Rattle.std.specs.List.{list_any}
 use Rattle.std.proofs.lemmas.List.{length-map, map-append}
@@ -10,7 +10,7 @@ use Rattle.shard_law.proofs.Runs.{stored_on-push}
 use Rattle.shard_contents.specs.declared.touched_table.Touch.{Touch}
 use Rattle.shard_contents.specs.Transactions.{changes_table, is_changed, is_conflict}
 use Rattle.shard_contents.specs.KeptEntries.{kept_of, entries_kept}
-use Rattle.shard_contents.specs.inner.KeptConflicts.{keeps_table, is_changed_since, is_conflict_since}
+use Rattle.shard_contents.specs.inner.KeptConflicts.{keeps_table, is_conflict_since}
 
 pub length-kept : (slot : ℕ) (run : Run) → length (entries_kept slot run) ≡ length (stored_on slot run)
 length-kept slot run = length-map (stored_on slot run) kept_of

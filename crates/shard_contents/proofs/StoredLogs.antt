@@ -2,17 +2,18 @@
 use Rattle.std.proofs.Common.{◌≡◌, ℕ, zero, suc, ◌+◌, ◌-◌, ◌<◌, ◌≤◌, nat_lt, Bool, true, false, ◌||◌, List, [], ◌∷◌, ◌++◌, if◌then◌else◌, drop, length, get_or, Some, refl, sym, ap, ◌∙◌, subst, arith}
 use Rattle.std.specs.Prelude.{slice_get}
 use Rattle.std.specs.List.{list_any}
+use Rattle.std.proofs.lemmas.Bool.{le-ltb}
 use Rattle.std.proofs.lemmas.List.{drop-append-le, drop_all, length_push, length-drop, get_or-drop}
 use Rattle.std.proofs.lemmas.Option.{slice_get_within, get_or_from_slice_get}
 use Rattle.vschema.specs.declared.changes.RowChange.{RowChange}
 use Rattle.shard_contents.specs.declared.touched_table.Touch.{Touch}
 use Rattle.shard_contents.specs.inner.KeptConflicts.{keeps_table, is_changed_since, is_conflict_since}
-use Rattle.shard_contents.specs.inner.LastChanges.{last_change, tells_change, tells_conflict, TellLastChanges}
+use Rattle.shard_contents.specs.inner.LastChanges.{last_change, tells_conflict, TellLastChanges}
 use Rattle.shard_contents.specs.inner.StoredLogs.{StoredLog, nothing_stored, count_of, given_up, HasStored, HasStoredNext}
 use Rattle.shard_contents.proofs.ChangesSince.{tell_next}
 
-pub count_is : (log : StoredLog) (all : List (List RowChange)) → HasStored log all → count_of log ≡ length all
-count_is log all h =
+pub count-stored : (log : StoredLog) (all : List (List RowChange)) → HasStored log all → count_of log ≡ length all
+count-stored log all h =
     let k = ap length h.kept in
     let l = length-drop log.first all in
     let w = h.within in
@@ -26,7 +27,7 @@ same_log log now all entries logs same h = subst (HasStored now) same (subst (λ
 
 none_changed : (n table : ℕ) → list_any (keeps_table table) (drop n []) ≡ nat_lt n 0
 none_changed zero table = refl
-none_changed (suc n) table = refl
+none_changed (suc n) table = sym (le-ltb (suc n) 0 (omega arith))
 
 never_changed : (n : ℕ) → last_change [] n ≡ 0
 never_changed zero = refl
@@ -55,7 +56,7 @@ pub stored_next : (log now : StoredLog) (all : List (List RowChange)) (e : List 
 stored_next log now all e h next = by log.is_followed refl
   where
     count : count_of log ≡ length all
-    count = count_is log all h
+    count = count-stored log all h
 
     last : TellLastChanges (all ++ e ∷ []) now.last
     last =
@@ -95,7 +96,7 @@ followed log now all is h =
 -- none is kept any more
 pub unfollowed : (log now : StoredLog) (all : List (List RowChange)) → now ≡ given_up log → HasStored log all → HasStored now all
 unfollowed log now all is h =
-    let count = count_is log all h in
+    let count = count-stored log all h in
     same_log (given_up log) now all all is refl
     (record { within = omega (arith, count); kept = sym (drop_all (count_of log) all (omega (arith, count))); last = h.last })
 
