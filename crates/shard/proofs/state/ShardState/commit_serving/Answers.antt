@@ -1,5 +1,5 @@
 use denote.Param.Send.{sendable}
-use Rattle.std.proofs.Common.{Some, Ok, Option, ◌≡◌, ℕ, List, [], ◌∷◌, ◌++◌, length, sym, ap, subst, ◌∙◌, refl, arith}
+use Rattle.std.proofs.Common.{Some, Ok, Option, ◌≡◌, ℕ, List, length, sym, ap, subst, ◌∙◌, refl, arith}
 use Rattle.std.proofs.lemmas.Result.{err_from_is_err_and}
 use Rattle.vschema.specs.declared.schema.VSchema.{VSchema}
 use Rattle.journal.specs.Views.{SeatView, PassView}
