@@ -1,9 +1,10 @@
 //! Length-encoded numbers and strings.
-ghost use Rattle.std.specs.Prelude.{◌≡◌, ℕ, ◌^◌, ◌<◌, ◌≤◌, List, ◌∷◌, ◌++◌, length, slice_index};
+ghost use Rattle.std.specs.Prelude.{◌≡◌, ℕ, ◌+◌, ◌^◌, ◌<◌, ◌≤◌, List, ◌∷◌, ◌++◌, length, slice_index};
 ghost use Rattle.std.specs.Prelude.{IfSome, IsSomeAnd, OnOk, OnErr};
 ghost use Rattle.mysql_packet.specs.Numbers.{little_endian, length_encoded, length_encoded_string};
 
 use arrayvec::ArrayVec;
+use bytes::BytesMut;
 use std::alloc::AllocError;
 
 /// The eight bytes of a number, the lowest first.
@@ -60,25 +61,39 @@ pub fn length_encoded(n: u64) -> ArrayVec<u8, 9>
 }
 
 /// Appends a number in its shortest length-encoded form. It leaves `out` as it was if a growth is refused.
-pub fn put_length_encoded(n: u64, out: &mut Vec<u8>) -> Result<(), AllocError>
+pub fn put_length_encoded(n: u64, out: &mut BytesMut) -> Result<(), AllocError>
     ensures ok { OnOk result (out.new.items ≡ out.old.items ++ length_encoded n) }
     ensures err { OnErr result (out.new.items ≡ out.old.items) }
+    // No room is ever lost.
+    ensures capacity { length out.old.items + out.old.spare ≤ length out.new.items + out.new.spare }
 {
     if n < 251 {
-        out.push(n as u8)?;
-        return Ok(());
+        return out.extend_from_slice(&[n as u8]);
     }
     out.extend_from_slice(length_encoded(n).as_slice())
 }
 
+/// Appends a short text after its length, which is one byte, with room made once.
+fn put_short_string(text: &[u8], out: &mut BytesMut) -> Result<(), AllocError>
+    requires { length text.now < 251 }
+    ensures ok { OnOk result (out.new.items ≡ out.old.items ++ length_encoded_string text.now) }
+    // No room is ever lost.
+    ensures capacity { length out.old.items + out.old.spare ≤ length out.new.items + out.new.spare }
+{
+    out.reserve(text.len() + 1)?;
+    out.extend_reserved(&[text.len() as u8]);
+    out.extend_reserved(text);
+    Ok(())
+}
+
 /// Appends a text after its length. If a growth is refused, `out` may have the length already.
-pub fn put_length_encoded_string(text: &[u8], out: &mut Vec<u8>) -> Result<(), AllocError>
-    ensures { OnOk result (out.new.items ≡ out.old.items ++ length_encoded_string text.now) }
+pub fn put_length_encoded_string(text: &[u8], out: &mut BytesMut) -> Result<(), AllocError>
+    ensures ok { OnOk result (out.new.items ≡ out.old.items ++ length_encoded_string text.now) }
+    // No room is ever lost.
+    ensures capacity { length out.old.items + out.old.spare ≤ length out.new.items + out.new.spare }
 {
     if text.len() < 251 {
-        // most texts are short: their length is one byte
-        out.push(text.len() as u8)?;
-        return out.extend_from_slice(text);
+        return put_short_string(text, out);
     }
     put_length_encoded(text.len() as u64, out)?;
     out.extend_from_slice(text)

@@ -6,6 +6,7 @@ ghost use Rattle.resultset.specs.Chunks.{AreChunks};
 ghost use Rattle.resultset.specs.inner.Parts.{part_payload, open_packet};
 
 use crate::parts::Part;
+use bytes::BytesMut;
 use std::alloc::Global;
 use std::marker::Model;
 use std::mem;
@@ -16,6 +17,9 @@ pub const CHUNK_LIMIT: usize = 1 << 14;
 
 /// The room that the first chunk has at first, in bytes: a short stream has less.
 const FIRST_ROOM: usize = 512;
+
+/// The room that the last chunk of a stream has at least, in bytes, so that a buffer that it is made in has it again.
+pub const LAST_ROOM: usize = 84;
 
 /// A stream of bytes in chunks, one after another. None is empty, and each has at most `CHUNK_LIMIT` bytes. Contracts see the chunks.
 #[derive(Debug, Drop)]
@@ -74,19 +78,20 @@ impl Chunks {
 pub(crate) struct Filling {
     full: Vec<Items<u8>>,
     /// The bytes after those.
-    last: Vec<u8>,
+    last: BytesMut,
 }
 
 impl Model for Filling {
-    ghost use Rattle.std.specs.Prelude.{ℕ, List, ◌++◌, ◌≤◌, length};
+    ghost use Rattle.std.specs.Prelude.{ℕ, List, ◌+◌, ◌++◌, ◌≤◌, length};
     ghost use Rattle.std.specs.List.{concat};
     ghost use Rattle.resultset.specs.Chunks.{AreChunks};
+    ghost use Rattle.resultset.specs.declared.chunks.TheConstants.{LAST_ROOM};
 
     ghost Value = { List ℕ };
 
     ghost view = { λ f. concat f.full.items ++ f.last.items };
 
-    ghost invariant = { λ f. AreChunks f.full.items × (length f.last.items ≤ 16384) };
+    ghost invariant = { λ f. AreChunks f.full.items × (length f.last.items ≤ 16384) × (LAST_ROOM ≤ length f.last.items + f.last.spare) };
 }
 
 impl Filling {
@@ -97,8 +102,31 @@ impl Filling {
     {
         Ok(Filling {
             full: Vec::new(alloc),
-            last: Vec::with_capacity(alloc, FIRST_ROOM)?,
+            last: BytesMut::with_capacity(alloc, FIRST_ROOM)?,
         })
+    }
+
+    /// The stream of the bytes in a buffer, which goes on in it. Takes no memory.
+    pub(crate) fn over(alloc: Global, last: BytesMut) -> Filling
+        requires within { length last.items ≤ 16384 }
+        requires room { LAST_ROOM ≤ length last.items + last.spare }
+        ensures { result ≡ last.items }
+    {
+        Filling {
+            full: Vec::new(alloc),
+            last,
+        }
+    }
+
+    /// Its full chunks, and the buffer that has the bytes after them.
+    pub(crate) fn split(self) -> (Chunks, BytesMut)
+        ensures whole { concat result.0 ++ result.1.items ≡ self }
+        ensures each { AreChunks result.0 }
+        ensures within { length result.1.items ≤ 16384 }
+        ensures room { LAST_ROOM ≤ length result.1.items + result.1.spare }
+    {
+        let Filling { full, last } = self;
+        (Chunks { chunks: full }, last)
     }
 
     /// Appends bytes. Refuses only for want of memory.
@@ -110,8 +138,8 @@ impl Filling {
         while rest.len() > CHUNK_LIMIT - self.last.len() {
             let (front, more) = rest.split_at(CHUNK_LIMIT - self.last.len());
             self.last.extend_from_slice(front)?;
-            let next = Vec::with_capacity(alloc, CHUNK_LIMIT)?;
-            let full = mem::replace(&mut self.last, next);
+            let next = BytesMut::with_capacity(alloc, CHUNK_LIMIT)?;
+            let full = mem::replace(&mut self.last, next).into_vec()?;
             self.full.push(Items::from_vec(full))?;
             rest = more;
         }
@@ -143,37 +171,39 @@ impl Filling {
             return Ok(Chunks { chunks: full });
         }
         let mut chunks = full;
-        chunks.push(Items::from_vec(last))?;
+        chunks.push(Items::from_vec(last.into_vec()?))?;
         Ok(Chunks { chunks })
     }
 }
 
 /// Appends a part's packet with 0 as its length.
-fn put_open(number: u8, part: &Part, out: &mut Vec<u8>) -> Result<(), Refusal>
+fn put_open(number: u8, part: &Part, out: &mut BytesMut) -> Result<(), Refusal>
     ensures ok { OnOk result (out.new.items ≡ out.old.items ++ open_packet number (part_payload part.now)) }
     ensures err { IfErr result (λ e. e ≡ Refusal.OutOfMemory) }
+    ensures capacity { length out.old.items + out.old.spare ≤ length out.new.items + out.new.spare }
 {
     out.extend_from_slice(&[0, 0, 0, number])?;
     part.put(out)
 }
 
 /// Writes the length of a payload into the header that begins at this place.
-fn set_length(at: usize, size: usize, out: &mut Vec<u8>)
-    requires room { at + 4 ≤ length out.old.items }
+fn set_length(at: usize, size: usize, bytes: &mut [u8])
+    requires room { at + 4 ≤ length bytes.old }
     requires short { size < 16384 }
-    ensures { out.new.items ≡ slice_set (slice_set out.old.items at (size % 256)) (at + 1) (size / 256) }
+    ensures { bytes.new ≡ slice_set (slice_set bytes.old at (size % 256)) (at + 1) (size / 256) }
 {
-    out[at] = (size % 256) as u8;
-    out[at + 1] = (size / 256) as u8;
+    bytes[at] = (size % 256) as u8;
+    bytes[at + 1] = (size / 256) as u8;
 }
 
 /// Appends a part's packet, if the bytes are then no more than a chunk may have; else they stay as they were. Tells whether it did.
-fn put_within(number: u8, part: &Part, out: &mut Vec<u8>) -> Result<bool, Refusal>
+fn put_within(number: u8, part: &Part, out: &mut BytesMut) -> Result<bool, Refusal>
     requires { length out.old.items ≤ 16384 }
     ensures put { IfOk result (λ put. out.new.items ≡ (if put then out.old.items ++ packet number (part_payload part.now) else out.old.items)) }
     ensures short { IfOk result (λ put. IsTrue put → length (part_payload part.now) < 16384) }
     ensures within { length out.new.items ≤ 16384 }
     ensures err { IfErr result (λ e. e ≡ Refusal.OutOfMemory) }
+    ensures capacity { length out.old.items + out.old.spare ≤ length out.new.items + out.new.spare }
 {
     let start = out.len();
     let opened = put_open(number, part, out);
@@ -184,7 +214,7 @@ fn put_within(number: u8, part: &Part, out: &mut Vec<u8>) -> Result<bool, Refusa
                 out.truncate(start);
                 return Ok(false);
             }
-            set_length(start, end - start - 4, out);
+            set_length(start, end - start - 4, out.as_mut_slice());
             Ok(true)
         }
         Err(refusal) => {

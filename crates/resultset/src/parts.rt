@@ -1,9 +1,10 @@
 //! What the packets of a result set carry, one each.
-ghost use Rattle.std.specs.Prelude.{◌≡◌, ◌++◌, IfErr, OnOk};
+ghost use Rattle.std.specs.Prelude.{◌≡◌, ◌+◌, ◌≤◌, ◌++◌, length, IfErr, OnOk};
 ghost use Rattle.resultset.specs.inner.Parts.{part_payload};
 
 use crate::Column;
 use crate::writing::{put_definition, put_row};
+use bytes::BytesMut;
 use mysql_message::numbers::put_length_encoded;
 use mysql_message::{eof_payload, set_end_payload};
 use vt_value::{Refusal, Value};
@@ -71,9 +72,10 @@ impl<'a> Part<'a> {
     }
 
     /// Appends its payload.
-    pub(crate) fn put(&self, out: &mut Vec<u8>) -> Result<(), Refusal>
+    pub(crate) fn put(&self, out: &mut BytesMut) -> Result<(), Refusal>
         ensures ok { OnOk result (out.new.items ≡ out.old.items ++ part_payload self.now) }
         ensures err { IfErr result (λ e. e ≡ Refusal.OutOfMemory) }
+        ensures capacity { length out.old.items + out.old.spare ≤ length out.new.items + out.new.spare }
     {
         match self {
             Part::Row(row) => put_row(row, out),

@@ -1,5 +1,5 @@
 //! Result sets whose rows are pulled.
-ghost use Rattle.std.specs.Prelude.{◌≡◌, ◌++◌, map, IfErr, IfOk, OnErr, OnOk};
+ghost use Rattle.std.specs.Prelude.{◌≡◌, ◌+◌, ◌≤◌, ◌++◌, length, map, IfErr, IfOk, OnErr, OnOk};
 ghost use Rattle.std.specs.List.{concat};
 ghost use Rattle.mysql_packet.specs.Frames.{frame, frames_from, number_after, number_after_all};
 ghost use Rattle.resultset.specs.Chunks.{AreChunks};
@@ -7,13 +7,14 @@ ghost use Rattle.resultset.specs.Encoding.{row_payload, definition_payload, afte
 ghost use Rattle.resultset.specs.inner.Heads.{head_payloads};
 ghost use Rattle.resultset.specs.inner.Parts.{part_payload};
 
-use crate::chunks::{Chunks, Filling};
+use crate::chunks::{CHUNK_LIMIT, Chunks, Filling, LAST_ROOM};
 use crate::parts::Part;
 use crate::{Column, Outcome, SetEnd};
 use bytes::BytesMut;
 use mysql_packet::put_payload;
 use operators::Operator;
 use std::alloc::Global;
+use std::mem;
 use vt_value::Refusal;
 
 // Promise: A result set whose rows are pulled, each encoded as it comes and then dropped, is appended in that spelling, in chunks of at
@@ -46,6 +47,49 @@ pub fn encode_rows<R: Operator>(
     Ok(next)
 }
 
+// Promise: A result set whose rows are pulled is appended to the bytes in a buffer, in that spelling, of which the buffer keeps the last and the
+// full chunks before them are given; the buffer has the room for a refusal again, whatever happened
+/// Appends the packets of such a result set to the bytes in a buffer, which keeps the last of them, and gives the full chunks before those. Few
+/// result sets have any, so a short one takes no memory of its own. Refuses only for want of memory, and the buffer may then have any bytes.
+pub fn encode_rows_after<R: Operator>(
+    alloc: Global,
+    columns: &[Column],
+    rows: R,
+    number: u8,
+    status: u16,
+    end: SetEnd,
+    last: &mut BytesMut,
+) -> Result<Chunks, Refusal>
+    requires within { length last.old.items ≤ CHUNK_LIMIT }
+    requires room { LAST_ROOM ≤ length last.old.items + last.old.spare }
+    ensures ok { IfOk result (λ chunks. concat chunks ++ last.new.items
+        ≡ last.old.items ++ encoded end (Outcome.Rows (record { columns = columns.now; rows = R.to_come rows })) number status) }
+    // Each chunk has at most 16,384 bytes, and none is empty.
+    ensures chunks { IfOk result (λ chunks. AreChunks chunks) }
+    ensures within { length last.new.items ≤ CHUNK_LIMIT }
+    // It has the least room again, whatever happened.
+    ensures room { LAST_ROOM ≤ length last.new.items + last.new.spare }
+    ensures memory { IfErr result (λ e. e ≡ Refusal.OutOfMemory) }
+{
+    let mut pulled = rows;
+    let mut filling = Filling::over(alloc, mem::replace(last, BytesMut::new(alloc)));
+    let filled = fill(
+        alloc,
+        columns,
+        &mut pulled,
+        number,
+        status,
+        end,
+        &mut filling,
+    );
+    let (chunks, rest) = filling.split();
+    *last = rest;
+    match filled {
+        Ok(_next) => Ok(chunks),
+        Err(refusal) => Err(refusal),
+    }
+}
+
 /// Appends the packets of a result set.
 fn fill<R: Operator>(
     alloc: Global,
@@ -73,10 +117,10 @@ fn fill_long(alloc: Global, part: &Part, number: u8, filling: &mut Filling) -> R
     ensures next { IfOk result (λ n. n ≡ number_after number (part_payload part.now)) }
     ensures err { IfErr result (λ e. e ≡ Refusal.OutOfMemory) }
 {
-    let mut payload = Vec::new(alloc);
+    let mut payload = BytesMut::new(alloc);
     part.put(&mut payload)?;
     let mut packets = BytesMut::new(alloc);
-    let next = put_payload(number, &payload, &mut packets)?;
+    let next = put_payload(number, payload.as_slice(), &mut packets)?;
     filling.append(alloc, packets.as_slice())?;
     Ok(next)
 }

@@ -16,6 +16,9 @@ use mysql_packet::put_payload;
 use std::alloc::Global;
 use vt_value::{Refusal, Row, Value};
 
+/// The catalog of each column, after its length.
+const CATALOG: &[u8] = b"\x03def";
+
 /// The room for one payload that is made at first, in bytes: most definitions and rows have less.
 pub(crate) const PAYLOAD_ROOM: usize = 256;
 
@@ -85,7 +88,7 @@ fn put_set(
     ensures memory { IfErr result (λ e. e ≡ Refusal.OutOfMemory) }
     ensures capacity { length out.old.items + out.old.spare ≤ length out.new.items + out.new.spare }
 {
-    let mut payload = Vec::with_capacity(alloc, PAYLOAD_ROOM)?;
+    let mut payload = BytesMut::with_capacity(alloc, PAYLOAD_ROOM)?;
     let columns = set.columns.as_slice();
     let number = put_head(columns, number, status, end, &mut payload, out)?;
     let number = put_rows(set.rows.as_slice(), number, &mut payload, out)?;
@@ -98,7 +101,7 @@ pub(crate) fn put_head(
     number: u8,
     status: u16,
     end: SetEnd,
-    payload: &mut Vec<u8>,
+    payload: &mut BytesMut,
     out: &mut BytesMut,
 ) -> Result<u8, Refusal>
     requires { payload.old.items ≡ [] }
@@ -109,7 +112,7 @@ pub(crate) fn put_head(
     ensures capacity { length out.old.items + out.old.spare ≤ length out.new.items + out.new.spare }
 {
     put_length_encoded(columns.len() as u64, payload)?;
-    let number = put_payload(number, payload, out)?;
+    let number = put_payload(number, payload.as_slice(), out)?;
     let number = put_definitions(columns, number, payload, out)?;
     put_definitions_end(number, status, end, out)
 }
@@ -156,7 +159,7 @@ pub(crate) fn put_rows_end(
 fn put_definitions(
     columns: &[Column],
     number: u8,
-    payload: &mut Vec<u8>,
+    payload: &mut BytesMut,
     out: &mut BytesMut,
 ) -> Result<u8, Refusal>
     ensures ok { OnOk result (out.new.items
@@ -170,7 +173,7 @@ fn put_definitions(
     for column in columns {
         payload.clear();
         put_definition(column, payload)?;
-        next = put_payload(next, payload, out)?;
+        next = put_payload(next, payload.as_slice(), out)?;
     }
     Ok(next)
 }
@@ -179,7 +182,7 @@ fn put_definitions(
 fn put_rows(
     rows: &[Row],
     number: u8,
-    payload: &mut Vec<u8>,
+    payload: &mut BytesMut,
     out: &mut BytesMut,
 ) -> Result<u8, Refusal>
     ensures ok { OnOk result (out.new.items ≡ out.old.items ++ frames_from number (map row_payload rows.now)) }
@@ -192,25 +195,27 @@ fn put_rows(
     for row in rows {
         payload.clear();
         put_row(row.as_slice(), payload)?;
-        next = put_payload(next, payload, out)?;
+        next = put_payload(next, payload.as_slice(), out)?;
     }
     Ok(next)
 }
 
-pub(crate) fn put_definition(column: &Column, payload: &mut Vec<u8>) -> Result<(), Refusal>
+pub(crate) fn put_definition(column: &Column, payload: &mut BytesMut) -> Result<(), Refusal>
     ensures ok { OnOk result (payload.new.items ≡ payload.old.items ++ definition_payload column.now) }
     ensures memory { IfErr result (λ e. e ≡ Refusal.OutOfMemory) }
+    ensures capacity { length payload.old.items + payload.old.spare ≤ length payload.new.items + payload.new.spare }
 {
     put_names(column, payload)?;
     put_fixed_fields(column.kind, column.flags, payload)
 }
 
 /// Appends the catalog, which is `def`, and the names: each of the table's and the column's has two.
-fn put_names(column: &Column, payload: &mut Vec<u8>) -> Result<(), Refusal>
+fn put_names(column: &Column, payload: &mut BytesMut) -> Result<(), Refusal>
     ensures ok { OnOk result (payload.new.items ≡ payload.old.items ++ name_fields column.now) }
     ensures memory { IfErr result (λ e. e ≡ Refusal.OutOfMemory) }
+    ensures capacity { length payload.old.items + payload.old.spare ≤ length payload.new.items + payload.new.spare }
 {
-    put_length_encoded_string(b"def", payload)?;
+    payload.extend_from_slice(CATALOG)?;
     put_length_encoded_string(column.schema.as_slice(), payload)?;
     put_length_encoded_string(column.table.as_slice(), payload)?;
     put_length_encoded_string(column.table.as_slice(), payload)?;
@@ -220,9 +225,10 @@ fn put_names(column: &Column, payload: &mut Vec<u8>) -> Result<(), Refusal>
 }
 
 /// Appends the fields of a fixed length: the character set binary, the length, the type, the flags, no decimals.
-fn put_fixed_fields(kind: Kind, flags: u16, payload: &mut Vec<u8>) -> Result<(), Refusal>
+fn put_fixed_fields(kind: Kind, flags: u16, payload: &mut BytesMut) -> Result<(), Refusal>
     ensures ok { OnOk result (payload.new.items ≡ payload.old.items ++ fixed_fields kind flags) }
     ensures memory { IfErr result (λ e. e ≡ Refusal.OutOfMemory) }
+    ensures capacity { length payload.old.items + payload.old.spare ≤ length payload.new.items + payload.new.spare }
 {
     let [low, high, ..] = little_endian(u64::from(flags));
     payload.extend_from_slice(&[
@@ -264,9 +270,10 @@ fn length_of(kind: Kind) -> u8
     }
 }
 
-pub(crate) fn put_row(row: &[Value], payload: &mut Vec<u8>) -> Result<(), Refusal>
+pub(crate) fn put_row(row: &[Value], payload: &mut BytesMut) -> Result<(), Refusal>
     ensures ok { OnOk result (payload.new.items ≡ payload.old.items ++ row_payload row.now) }
     ensures memory { IfErr result (λ e. e ≡ Refusal.OutOfMemory) }
+    ensures capacity { length payload.old.items + payload.old.spare ≤ length payload.new.items + payload.new.spare }
 {
     for value in row {
         put_value(value, payload)?;
@@ -274,12 +281,13 @@ pub(crate) fn put_row(row: &[Value], payload: &mut Vec<u8>) -> Result<(), Refusa
     Ok(())
 }
 
-fn put_value(value: &Value, payload: &mut Vec<u8>) -> Result<(), Refusal>
+fn put_value(value: &Value, payload: &mut BytesMut) -> Result<(), Refusal>
     ensures ok { OnOk result (payload.new.items ≡ payload.old.items ++ value_bytes value.now) }
     ensures memory { IfErr result (λ e. e ≡ Refusal.OutOfMemory) }
+    ensures capacity { length payload.old.items + payload.old.spare ≤ length payload.new.items + payload.new.spare }
 {
     match value {
-        Value::Null => payload.push(0xFB)?,
+        Value::Null => payload.extend_from_slice(&[0xFB])?,
         Value::Int(n) => put_length_encoded_string(Buffer::new().format(*n).as_bytes(), payload)?,
         Value::Bytes(text) => put_length_encoded_string(text.as_slice(), payload)?,
     }

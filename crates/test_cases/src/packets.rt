@@ -161,9 +161,9 @@ pub(crate) fn length_encoded(
     told: &mut CaseAnswer,
 ) -> Result<(), Unanswered> {
     let number = number(case)?;
-    let mut bytes = Vec::new(alloc);
+    let mut bytes = BytesMut::new(alloc);
     let done = numbers::put_length_encoded(number, &mut bytes);
-    told.put_bytes(&bytes);
+    told.put_bytes(bytes.as_slice());
     drop(bytes);
     Ok(done?)
 }
@@ -175,10 +175,10 @@ pub(crate) fn length_encoded_string(
     told: &mut CaseAnswer,
 ) -> Result<(), Unanswered> {
     let text = text_of(alloc, case)?;
-    let mut bytes = Vec::new(alloc);
+    let mut bytes = BytesMut::new(alloc);
     let done = numbers::put_length_encoded_string(&text, &mut bytes);
     drop(text);
-    told.put_bytes(&bytes);
+    told.put_bytes(bytes.as_slice());
     drop(bytes);
     Ok(done?)
 }

@@ -11,8 +11,8 @@ returns-in_err-next-clause-err c = on_err _ (front_stays _ _ _ (c.in_err-next.en
 
 pub loop-column-preserved : goal.loop-column-preserved
 loop-column-preserved c =
-    let payload : c.deref.result.now ≡ definition_payload c.column-item.result =
-    c.deref.ensures.value ∙ c.in_ok-put_definition.ensures.ok ∙ ap (λ l. l ++ definition_payload c.column-item.result) c.clear.ensures.items
+    let payload : c.as_slice.result.now ≡ definition_payload c.column-item.result =
+    c.as_slice.ensures ∙ c.in_ok-put_definition.ensures.ok ∙ ap (λ l. l ++ definition_payload c.column-item.result) c.clear.ensures.items
     in
-    puts_next definition_payload c.args.columns.now c.loop-column.column-index c.column-item.result c.deref.result.now _ _ _ _ _ _ c.loop-column.invariant c.loop-column-test.true c.column-item.is payload
+    puts_next definition_payload c.args.columns.now c.loop-column.column-index c.column-item.result c.as_slice.result.now _ _ _ _ _ _ c.loop-column.invariant c.loop-column-test.true c.column-item.is payload
     c.in_ok-next.ensures.ok c.in_ok-next.ensures.next c.put_payload.ensures.capacity

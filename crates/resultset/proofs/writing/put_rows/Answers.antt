@@ -11,8 +11,8 @@ returns-in_err-next-clause-err c = on_err _ (front_stays _ _ _ (c.in_err-next.en
 
 pub loop-row-preserved : goal.loop-row-preserved
 loop-row-preserved c =
-    let payload : c.deref.result.now ≡ row_payload c.row-item.result =
-    c.deref.ensures.value ∙ c.in_ok-put_row.ensures.ok ∙ ap (λ l. l ++ row_payload c.as_slice.result.now) c.clear.ensures.items ∙ ap row_payload c.as_slice.ensures
+    let payload : c.as_slice-in-loop-row.result.now ≡ row_payload c.row-item.result =
+    c.as_slice-in-loop-row.ensures ∙ c.in_ok-put_row.ensures.ok ∙ ap (λ l. l ++ row_payload c.as_slice.result.now) c.clear.ensures.items ∙ ap row_payload c.as_slice.ensures
     in
-    puts_next row_payload c.args.rows.now c.loop-row.row-index c.row-item.result c.deref.result.now _ _ _ _ _ _ c.loop-row.invariant c.loop-row-test.true c.row-item.is payload
+    puts_next row_payload c.args.rows.now c.loop-row.row-index c.row-item.result c.as_slice-in-loop-row.result.now _ _ _ _ _ _ c.loop-row.invariant c.loop-row-test.true c.row-item.is payload
     c.in_ok-next.ensures.ok c.in_ok-next.ensures.next c.put_payload.ensures.capacity
