@@ -1,18 +1,21 @@
 //! FROM, the second table, and the clauses after the tables' names.
-ghost use Rattle.std.specs.Prelude.{◌≡◌, ℕ, List};
+ghost use Rattle.std.specs.Prelude.{◌≡◌, ◌||◌, ℕ, List, false, is_some, IfSome};
 ghost use Rattle.sql_lexer.specs.Lexemes.{lexemes_of};
+ghost use Rattle.sql_lexer.specs.declared.token.Keyword.TheVariants.{Where};
+ghost use Rattle.sql_lexer.specs.declared.token.TokenKind.TheVariants.{Keyword, Word, Operator, Number};
 ghost use Rattle.sql_lexer.specs.inner.Results.{AgreesWith};
-ghost use Rattle.sql_parser.specs.inner.Reading.{listed_at, from_at, on_at, joined_on_at, join_at, where_at, group_at};
+ghost use Rattle.sql_parser.specs.inner.Reading.{said, is_and, is_or, after_at, listed_at, from_at, on_at, joined_on_at, join_at, compared_at, filter_at, where_at, group_at};
 ghost use Rattle.sql_parser.specs.inner.Reading.{direction_at, sort_key_at, order_at, offset_at, limit_at};
 
-use crate::conditions::or;
+use crate::conditions::{goes_on, or};
 use crate::kinds::{ASC, BY, DESC, FROM, GROUP, INNER, JOIN, LIMIT, OFFSET, ON, ORDER, WHERE};
 use crate::names::{after_comma, column, columns, name, number};
+use crate::said;
 use crate::writes::equals;
-use sql_lexer::Token;
-use sql_tree::{ColumnName, Condition, JoinOn, Key, LimitClause, Name};
+use sql_lexer::{Token, TokenKind};
+use sql_tree::{ColumnName, Condition, JoinOn, Key, LimitClause, Name, Operand};
 use std::alloc::Global;
-use vt_value::{Items, Refusal};
+use vt_value::{Comparison, Items, Refusal, Value};
 
 /// How many open parentheses and NOTs may be on one path.
 const MAX_DEPTH: usize = 64;
@@ -86,7 +89,66 @@ pub fn join<'s>(
     }
 }
 
-/// [WHERE or]
+/// A comparison of a column with a number, after WHERE: these two tokens, and what comes after the number.
+fn compared<'s>(
+    alloc: Global,
+    text: &[u8],
+    column: &Token,
+    op: Comparison,
+    value: &Token,
+    rest: &'s [Token],
+) -> Result<(Option<Condition<ColumnName>>, &'s [Token]), Refusal>
+    ensures { AgreesWith (λ x. (x.0, lexemes_of text.now x.1.now)) result
+        (compared_at (said text.now column.now) op (said text.now value.now) (lexemes_of text.now rest.now)) }
+{
+    let Some(bytes) = said::identifier(text, column) else {
+        return Err(Refusal::SyntaxError);
+    };
+    let Some(value) = said::number(text, value) else {
+        return Err(Refusal::SyntaxError);
+    };
+    let column = ColumnName {
+        table: None,
+        name: Items::from_slice(alloc, bytes)?,
+    };
+    let literal = Value::Int(i128::from(value));
+    let condition = Condition::Compare(op, Operand::Column(column), Operand::Literal(literal));
+    Ok((Some(condition), rest))
+}
+
+/// Any condition, after WHERE.
+#[inline(never)]
+fn any_filter<'s>(
+    alloc: Global,
+    text: &[u8],
+    tokens: &'s [Token],
+) -> Result<(Option<Condition<ColumnName>>, &'s [Token]), Refusal>
+    ensures { AgreesWith (λ x. (x.0, lexemes_of text.now x.1.now)) result (filter_at (lexemes_of text.now tokens.now)) }
+{
+    let (condition, rest) = or(alloc, text, MAX_DEPTH, tokens)?;
+    Ok((Some(condition), rest))
+}
+
+/// How a column is compared with a number, if that is what these tokens are, WHERE before them and no AND and no OR after.
+fn number_test(
+    first: &Token,
+    column: &Token,
+    op: &Token,
+    value: &Token,
+    rest: &[Token],
+) -> Option<Comparison>
+    ensures kinds { IfSome result (λ c. (first.now.kind ≡ Keyword Where) × (column.now.kind ≡ Word) × (op.now.kind ≡ Operator c) × (value.now.kind ≡ Number)) }
+    ensures alone { (text : List ℕ)
+        → IfSome result (λ _. false ≡ (is_some (after_at is_and (lexemes_of text rest.now)) || is_some (after_at is_or (lexemes_of text rest.now)))) }
+{
+    match (first.kind, column.kind, op.kind, value.kind) {
+        (WHERE, TokenKind::Word, TokenKind::Operator(op), TokenKind::Number) if !goes_on(rest) =>
+            Some(op),
+        _ => None,
+    }
+}
+
+/// [WHERE or]. The condition of a query by a key, a column and a number alone, is read at once.
 #[tactic(auto, unfolding(crate::specs::inner::Reading::where_at))]
 pub fn filter<'s>(
     alloc: Global,
@@ -95,11 +157,13 @@ pub fn filter<'s>(
 ) -> Result<(Option<Condition<ColumnName>>, &'s [Token]), Refusal>
     ensures { AgreesWith (λ x. (x.0, lexemes_of text.now x.1.now)) result (where_at (lexemes_of text.now tokens.now)) }
 {
-    match tokens {
-        [Token { kind: WHERE, .. }, rest @ ..] => {
-            let (condition, rest) = or(alloc, text, MAX_DEPTH, rest)?;
-            Ok((Some(condition), rest))
+    if let [first, column, op, value, rest @ ..] = tokens {
+        if let Some(op) = number_test(first, column, op, value, rest) {
+            return compared(alloc, text, column, op, value, rest);
         }
+    }
+    match tokens {
+        [Token { kind: WHERE, .. }, rest @ ..] => any_filter(alloc, text, rest),
         _ => Ok((None, tokens)),
     }
 }

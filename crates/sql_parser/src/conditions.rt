@@ -1,5 +1,5 @@
 //! Conditions of WHERE.
-ghost use Rattle.std.specs.Prelude.{◌≡◌, ℕ, List, [], ◌∷◌, option_map};
+ghost use Rattle.std.specs.Prelude.{◌≡◌, ◌||◌, ℕ, List, [], ◌∷◌, option_map, is_some};
 ghost use Rattle.std.specs.Option.{option_copied};
 ghost use Rattle.sql_lexer.specs.Lexemes.{lexemes_of};
 ghost use Rattle.sql_lexer.specs.inner.Results.{AgreesWith};
@@ -31,6 +31,14 @@ fn after_or(tokens: &[Token]) -> Option<&[Token]>
         [Token { kind: OR, .. }, rest @ ..] => Some(rest),
         _ => None,
     }
+}
+
+/// Whether an AND or an OR comes next.
+pub fn goes_on(tokens: &[Token]) -> bool
+    ensures { (text : List ℕ)
+        → result ≡ (is_some (after_at is_and (lexemes_of text tokens.now)) || is_some (after_at is_or (lexemes_of text tokens.now))) }
+{
+    after_and(tokens).is_some() || after_or(tokens).is_some()
 }
 
 /// IN (literal,..), after an operand.

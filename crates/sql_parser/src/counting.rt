@@ -1,9 +1,9 @@
 //! The limit on the literals of a statement.
-ghost use Rattle.std.specs.Prelude.{◌≡◌, ◌-◌, nat_le, length, map, sum, sum_by};
-ghost use Rattle.sql_tree.specs.Literals.{operand_literals, condition_literals, filter_literals, literals_of};
+ghost use Rattle.std.specs.Prelude.{◌≡◌, ◌+◌, ◌-◌, nat_le, length, map, sum, sum_by};
+ghost use Rattle.sql_tree.specs.Literals.{operand_literals, condition_literals, filter_literals};
 ghost use Rattle.sql_parser.specs.Grammar.{max_literals};
 
-use sql_tree::{ColumnName, Condition, Operand, Statement};
+use sql_tree::{ColumnName, Condition, Operand};
 use vt_value::{Items, Value};
 
 /// How many literals a statement may have.
@@ -63,22 +63,16 @@ fn left_after_rows(rows: &[Items<Value>], left: usize) -> usize
     left
 }
 
-/// Whether a statement has no more literals than it may.
-pub fn has_few_literals(statement: &Statement) -> bool
-    ensures { result ≡ nat_le (literals_of statement.now) max_literals }
+/// Whether a filter and so many literals before it are no more literals than a statement may have.
+pub fn filter_has_few_literals(filter: &Option<Condition<ColumnName>>, before: usize) -> bool
+    ensures { result ≡ nat_le (before + filter_literals filter.now) max_literals }
 {
-    let left = MAX_LITERALS + 1;
-    let left = match statement {
-        Statement::Select(select) => left_after_filter(&select.filter, left),
-        Statement::Insert(insert) => left_after_rows(insert.rows.as_slice(), left),
-        Statement::Update(update) => {
-            left_after_filter(
-                &update.filter,
-                left.saturating_sub(update.assignments.len()),
-            )
-        }
-        Statement::Delete(delete) => left_after_filter(&delete.filter, left),
-        _ => left,
-    };
-    left > 0
+    left_after_filter(filter, (MAX_LITERALS + 1).saturating_sub(before)) > 0
+}
+
+/// Whether rows have no more literals than a statement may have.
+pub fn rows_have_few_literals(rows: &[Items<Value>]) -> bool
+    ensures { result ≡ nat_le (sum_by length rows.now) max_literals }
+{
+    left_after_rows(rows, MAX_LITERALS + 1) > 0
 }

@@ -80,6 +80,7 @@ fn item<'s>(
 }
 
 /// item,..
+#[inline(never)]
 fn items<'s>(
     alloc: Global,
     text: &[u8],

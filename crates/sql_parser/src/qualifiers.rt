@@ -1,10 +1,9 @@
-//! Whether an UPDATE or a DELETE has a column after the name of a table.
+//! Whether a column of a filter comes after the name of a table, as it may in a SELECT alone.
 ghost use Rattle.std.specs.Prelude.{◌≡◌, map};
 ghost use Rattle.std.specs.List.{list_any};
 ghost use Rattle.sql_parser.specs.Qualifiers.{operand_is_qualified, condition_is_qualified, filter_is_qualified};
-ghost use Rattle.sql_parser.specs.Qualifiers.{qualifies_outside_select};
 
-use sql_tree::{ColumnName, Condition, Operand, Statement};
+use sql_tree::{ColumnName, Condition, Operand};
 
 fn operand_is_qualified(operand: &Operand<ColumnName>) -> bool
     ensures { result ≡ operand_is_qualified operand.now }
@@ -42,22 +41,12 @@ fn one_is_qualified(members: &[Condition<ColumnName>]) -> bool
     false
 }
 
-fn filter_is_qualified(filter: &Option<Condition<ColumnName>>) -> bool
+/// Whether a column of a filter comes after the name of a table.
+pub fn filter_is_qualified(filter: &Option<Condition<ColumnName>>) -> bool
     ensures { result ≡ filter_is_qualified filter.now }
 {
     match filter {
         None => false,
         Some(condition) => is_qualified(condition),
-    }
-}
-
-/// Whether a condition of an UPDATE or a DELETE has a column after the name of a table.
-pub fn qualifies_outside_select(statement: &Statement) -> bool
-    ensures { result ≡ qualifies_outside_select statement.now }
-{
-    match statement {
-        Statement::Update(update) => filter_is_qualified(&update.filter),
-        Statement::Delete(delete) => filter_is_qualified(&delete.filter),
-        _ => false,
     }
 }

@@ -1,22 +1,22 @@
 //! Reads the statement that tokens are, one function for each rule of the grammar. Each gives what it read, and the tokens that are left.
-ghost use Rattle.std.specs.Prelude.{◌≡◌, ◌⊎◌, ℕ, IfOk, IfErr, MatchResult, List, map, bytes_eq};
+ghost use Rattle.std.specs.Prelude.{◌≡◌, ◌⊎◌, ℕ, false, IfOk, IfErr, MatchResult, List, map, bytes_eq};
 ghost use Rattle.std.specs.Char.{to_ascii_lowercase};
 ghost use Rattle.sql_lexer.specs.Lexemes.{lexemes_of};
 ghost use Rattle.sql_lexer.specs.inner.Results.{AgreesWith};
 ghost use Rattle.sql_tree.specs.declared.Statement.{Statement};
+ghost use Rattle.sql_tree.specs.Literals.{literals_of};
 ghost use Rattle.sql_tree.specs.Printing.{printed};
 ghost use Rattle.sql_parser.specs.Grammar.{Reads, is_setting};
-ghost use Rattle.sql_parser.specs.inner.Reading.{select_statement_at, charset_at, setting_at, control_at, statement_at, is_end, is_text, text_at};
+ghost use Rattle.sql_parser.specs.Qualifiers.{qualifies_outside_select};
+ghost use Rattle.sql_parser.specs.inner.Reading.{charset_at, setting_at, control_at, select_text_at, control_text_at, text_at};
 
 use crate::clauses::{filter, from, group, join, limit, order};
-use crate::counting::has_few_literals;
+use crate::endings::{ends_select, is_end};
 use crate::items::list;
 use crate::kinds::{
-    BEGIN, COMMIT, DELETE, INSERT, INTO, NAMES, ROLLBACK, SELECT, SEMICOLON, SET, START,
-    TRANSACTION, UPDATE,
+    BEGIN, COMMIT, DELETE, INSERT, INTO, NAMES, ROLLBACK, SELECT, SET, START, TRANSACTION, UPDATE,
 };
 use crate::names::name;
-use crate::qualifiers::qualifies_outside_select;
 use crate::said;
 use crate::writes::{delete, equals, insert, update};
 use sql_lexer::{Token, TokenKind, lex};
@@ -24,14 +24,10 @@ use sql_tree::{CharacterSet, Select, Statement};
 use std::alloc::Global;
 use vt_value::{Items, Refusal};
 
-/// list FROM name and the clauses after it, after SELECT.
+/// list FROM name and the clauses after it, to the end of the text, after SELECT.
 #[tactic(auto, unfolding(crate::specs::inner::Reading::select_at))]
-fn select<'s>(
-    alloc: Global,
-    text: &[u8],
-    tokens: &'s [Token],
-) -> Result<(Statement, &'s [Token]), Refusal>
-    ensures { AgreesWith (λ x. (x.0, lexemes_of text.now x.1.now)) result (select_statement_at (lexemes_of text.now tokens.now)) }
+fn select(alloc: Global, text: &[u8], tokens: &[Token]) -> Result<Statement, Refusal>
+    ensures { AgreesWith (λ x. x) result (select_text_at (lexemes_of text.now tokens.now)) }
 {
     let (list, rest) = list(alloc, text, tokens)?;
     let (table, rest) = from(alloc, text, rest)?;
@@ -40,7 +36,10 @@ fn select<'s>(
     let (group_by, rest) = group(alloc, text, rest)?;
     let (order_by, rest) = order(alloc, text, rest)?;
     let (limit, rest) = limit(text, rest)?;
-    let select = Select {
+    if !ends_select(&filter, rest) {
+        return Err(Refusal::SyntaxError);
+    }
+    Ok(Statement::Select(Select {
         list,
         table,
         join,
@@ -48,8 +47,7 @@ fn select<'s>(
         group_by,
         order_by,
         limit,
-    };
-    Ok((Statement::Select(select), rest))
+    }))
 }
 
 /// identifier | string
@@ -102,7 +100,9 @@ fn setting<'s>(
     text: &[u8],
     tokens: &'s [Token],
 ) -> Result<(Statement, &'s [Token]), Refusal>
-    ensures { AgreesWith (λ x. (x.0, lexemes_of text.now x.1.now)) result (setting_at (lexemes_of text.now tokens.now)) }
+    ensures read { AgreesWith (λ x. (x.0, lexemes_of text.now x.1.now)) result (setting_at (lexemes_of text.now tokens.now)) }
+    ensures few { IfOk result (λ x. literals_of x.0 ≡ 0) }
+    ensures plain { IfOk result (λ x. qualifies_outside_select x.0 ≡ false) }
 {
     let (name, rest) = name(alloc, text, tokens)?;
     let is_known = is_setting(name.as_slice());
@@ -122,7 +122,9 @@ fn control<'s>(
     text: &[u8],
     tokens: &'s [Token],
 ) -> Result<(Statement, &'s [Token]), Refusal>
-    ensures { AgreesWith (λ x. (x.0, lexemes_of text.now x.1.now)) result (control_at (lexemes_of text.now tokens.now)) }
+    ensures read { AgreesWith (λ x. (x.0, lexemes_of text.now x.1.now)) result (control_at (lexemes_of text.now tokens.now)) }
+    ensures few { IfOk result (λ x. literals_of x.0 ≡ 0) }
+    ensures plain { IfOk result (λ x. qualifies_outside_select x.0 ≡ false) }
 {
     match tokens {
         [Token { kind: BEGIN, .. }, rest @ ..] => Ok((Statement::Begin, rest)),
@@ -149,14 +151,22 @@ fn control<'s>(
     }
 }
 
-/// statement = select | insert | update | delete | one of sessions and transactions
-#[tactic(auto, unfolding(crate::specs::inner::Reading::statement_at))]
-fn statement<'s>(
-    alloc: Global,
-    text: &[u8],
-    tokens: &'s [Token],
-) -> Result<(Statement, &'s [Token]), Refusal>
-    ensures { AgreesWith (λ x. (x.0, lexemes_of text.now x.1.now)) result (statement_at (lexemes_of text.now tokens.now)) }
+/// A statement of sessions and transactions, to the end of the text.
+fn whole_control(alloc: Global, text: &[u8], tokens: &[Token]) -> Result<Statement, Refusal>
+    ensures { AgreesWith (λ x. x) result (control_text_at (lexemes_of text.now tokens.now)) }
+{
+    let (statement, rest) = control(alloc, text, tokens)?;
+    if is_end(rest) {
+        Ok(statement)
+    } else {
+        Err(Refusal::SyntaxError)
+    }
+}
+
+/// statement = select | insert | update | delete | one of sessions and transactions, which all of the tokens are.
+#[tactic(auto, unfolding(crate::specs::inner::Reading::text_at, crate::specs::inner::Reading::statement_at))]
+fn whole(alloc: Global, text: &[u8], tokens: &[Token]) -> Result<Statement, Refusal>
+    ensures { AgreesWith (λ x. x) result (text_at (lexemes_of text.now tokens.now)) }
 {
     match tokens {
         [Token { kind: SELECT, .. }, rest @ ..] => select(alloc, text, rest),
@@ -164,56 +174,10 @@ fn statement<'s>(
             Token { kind: INSERT, .. },
             Token { kind: INTO, .. },
             rest @ ..,
-        ] => {
-            let (insert, rest) = insert(alloc, text, rest)?;
-            Ok((Statement::Insert(insert), rest))
-        }
-        [Token { kind: UPDATE, .. }, rest @ ..] => {
-            let (update, rest) = update(alloc, text, rest)?;
-            Ok((Statement::Update(update), rest))
-        }
-        [Token { kind: DELETE, .. }, rest @ ..] => {
-            let (delete, rest) = delete(alloc, text, rest)?;
-            Ok((Statement::Delete(delete), rest))
-        }
-        _ => control(alloc, text, tokens),
-    }
-}
-
-/// Whether nothing is left but one semicolon at most.
-fn is_end(tokens: &[Token]) -> bool
-    ensures { (text : List ℕ) → result ≡ is_end (lexemes_of text tokens.now) }
-{
-    match tokens {
-        [] => true,
-        [
-            Token {
-                kind: SEMICOLON,
-                ..
-            },
-        ] => true,
-        _ => false,
-    }
-}
-
-/// Whether a statement with this after it is a whole text, within the limit on literals, and with qualified columns in a
-/// SELECT alone.
-fn is_text(statement: &Statement, rest: &[Token]) -> bool
-    ensures { (text : List ℕ) → result ≡ is_text (statement.now, lexemes_of text rest.now) }
-{
-    is_end(rest) && has_few_literals(statement) && !qualifies_outside_select(statement)
-}
-
-/// The statement that all of the tokens are.
-#[tactic(auto, unfolding(crate::specs::inner::Reading::text_at))]
-fn whole(alloc: Global, text: &[u8], tokens: &[Token]) -> Result<Statement, Refusal>
-    ensures { AgreesWith (λ x. x) result (text_at (lexemes_of text.now tokens.now)) }
-{
-    let (statement, rest) = statement(alloc, text, tokens)?;
-    if is_text(&statement, rest) {
-        Ok(statement)
-    } else {
-        Err(Refusal::SyntaxError)
+        ] => insert(alloc, text, rest),
+        [Token { kind: UPDATE, .. }, rest @ ..] => update(alloc, text, rest),
+        [Token { kind: DELETE, .. }, rest @ ..] => delete(alloc, text, rest),
+        _ => whole_control(alloc, text, tokens),
     }
 }
 

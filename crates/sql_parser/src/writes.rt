@@ -1,16 +1,17 @@
-//! INSERT, UPDATE and DELETE, after their first words.
+//! INSERT, UPDATE and DELETE, after their first words and to the end of the text.
 ghost use Rattle.std.specs.Prelude.{◌≡◌, ℕ, List};
 ghost use Rattle.sql_lexer.specs.Lexemes.{lexemes_of};
 ghost use Rattle.sql_lexer.specs.inner.Results.{AgreesWith};
 ghost use Rattle.sql_parser.specs.inner.Reading.{listed_at, bracketed_at, name_at, members_at, columns_at, values_at};
-ghost use Rattle.sql_parser.specs.inner.Reading.{set_at, equals_at, assignment_at, insert_at, update_at, delete_at};
+ghost use Rattle.sql_parser.specs.inner.Reading.{set_at, equals_at, assignment_at, insert_text_at, update_text_at, delete_text_at};
 
 use crate::clauses::{filter, from};
+use crate::endings::{ends_change, ends_insert};
 use crate::kinds::{EQUAL, OPEN, SET, VALUES};
 use crate::literals::{closed, literal, members, open};
 use crate::names::{after_comma, name, names};
 use sql_lexer::Token;
-use sql_tree::{Assignment, Delete, Insert, Name, Update};
+use sql_tree::{Assignment, Delete, Insert, Name, Statement, Update};
 use std::alloc::Global;
 use vt_value::{Items, Refusal, Value};
 
@@ -103,25 +104,23 @@ fn rows<'s>(
     Ok((rows, rest))
 }
 
-/// name [(name,..)] VALUES (literal,..),.., after INSERT INTO.
+/// name [(name,..)] VALUES (literal,..),.. to the end of the text, after INSERT INTO.
 #[tactic(auto, unfolding(crate::specs::inner::Reading::insert_at))]
-pub fn insert<'s>(
-    alloc: Global,
-    text: &[u8],
-    tokens: &'s [Token],
-) -> Result<(Insert, &'s [Token]), Refusal>
-    ensures { AgreesWith (λ x. (x.0, lexemes_of text.now x.1.now)) result (insert_at (lexemes_of text.now tokens.now)) }
+pub fn insert(alloc: Global, text: &[u8], tokens: &[Token]) -> Result<Statement, Refusal>
+    ensures { AgreesWith (λ x. x) result (insert_text_at (lexemes_of text.now tokens.now)) }
 {
     let (table, rest) = name(alloc, text, tokens)?;
     let (columns, rest) = columns(alloc, text, rest)?;
     let rest = values(rest)?;
     let (rows, rest) = rows(alloc, text, rest)?;
-    let insert = Insert {
+    if !ends_insert(rows.as_slice(), rest) {
+        return Err(Refusal::SyntaxError);
+    }
+    Ok(Statement::Insert(Insert {
         table,
         columns,
         rows,
-    };
-    Ok((insert, rest))
+    }))
 }
 
 /// name = literal
@@ -159,37 +158,34 @@ fn assignments<'s>(
     Ok((assignments, rest))
 }
 
-/// name SET name = literal,.. [WHERE or], after UPDATE.
+/// name SET name = literal,.. [WHERE or] to the end of the text, after UPDATE.
 #[tactic(auto, unfolding(crate::specs::inner::Reading::update_at))]
-pub fn update<'s>(
-    alloc: Global,
-    text: &[u8],
-    tokens: &'s [Token],
-) -> Result<(Update, &'s [Token]), Refusal>
-    ensures { AgreesWith (λ x. (x.0, lexemes_of text.now x.1.now)) result (update_at (lexemes_of text.now tokens.now)) }
+pub fn update(alloc: Global, text: &[u8], tokens: &[Token]) -> Result<Statement, Refusal>
+    ensures { AgreesWith (λ x. x) result (update_text_at (lexemes_of text.now tokens.now)) }
 {
     let (table, rest) = name(alloc, text, tokens)?;
     let rest = set(rest)?;
     let (assignments, rest) = assignments(alloc, text, rest)?;
     let (filter, rest) = filter(alloc, text, rest)?;
-    let update = Update {
+    if !ends_change(assignments.len(), &filter, rest) {
+        return Err(Refusal::SyntaxError);
+    }
+    Ok(Statement::Update(Update {
         table,
         assignments,
         filter,
-    };
-    Ok((update, rest))
+    }))
 }
 
-/// FROM name [WHERE or], after DELETE.
+/// FROM name [WHERE or] to the end of the text, after DELETE.
 #[tactic(auto, unfolding(crate::specs::inner::Reading::delete_at))]
-pub fn delete<'s>(
-    alloc: Global,
-    text: &[u8],
-    tokens: &'s [Token],
-) -> Result<(Delete, &'s [Token]), Refusal>
-    ensures { AgreesWith (λ x. (x.0, lexemes_of text.now x.1.now)) result (delete_at (lexemes_of text.now tokens.now)) }
+pub fn delete(alloc: Global, text: &[u8], tokens: &[Token]) -> Result<Statement, Refusal>
+    ensures { AgreesWith (λ x. x) result (delete_text_at (lexemes_of text.now tokens.now)) }
 {
     let (table, rest) = from(alloc, text, tokens)?;
     let (filter, rest) = filter(alloc, text, rest)?;
-    Ok((Delete { table, filter }, rest))
+    if !ends_change(0, &filter, rest) {
+        return Err(Refusal::SyntaxError);
+    }
+    Ok(Statement::Delete(Delete { table, filter }))
 }

@@ -2,6 +2,7 @@
 use Rattle.std.specs.Prelude.{ℕ, zero, suc, ◌^◌, ◌&&◌, not, nat_lt, nat_le, Bool, true, false, List, [], ◌∷◌, ◌++◌, length, slice_range, Option, Some, None, is_some, pos, neg_ℤ, if◌then◌else◌}
 use Rattle.vt_value.specs.declared.value.Value.{Value}
 use Rattle.vt_value.specs.declared.value.Value.TheVariants.{Null, Int, Bytes}
+use Rattle.vt_value.specs.declared.value.Comparison.{Comparison}
 use Rattle.vt_value.specs.declared.value.Comparison.TheVariants.{Eq}
 use Rattle.sql_lexer.specs.declared.token.Token.{Token}
 use Rattle.sql_lexer.specs.declared.token.Keyword.TheVariants as k
@@ -251,9 +252,20 @@ join_at (keyword k.Join ∷ rest) = joined_on_at rest >>= λ x. Some (Some x.0, 
 join_at (keyword k.Inner ∷ keyword k.Join ∷ rest) = joined_on_at rest >>= λ x. Some (Some x.0, x.1)
 join_at ts = Some (None, ts)
 
+-- after WHERE
+abbrev pub filter_at : Lexemes → Read (Option (Condition ColumnName))
+filter_at ts = or_at max_depth ts >>= λ x. Some (Some x.0, x.1)
+
 unfoldable pub where_at : Lexemes → Read (Option (Condition ColumnName))
-where_at (keyword k.Where ∷ rest) = or_at max_depth rest >>= λ x. Some (Some x.0, x.1)
+where_at (keyword k.Where ∷ rest) = filter_at rest
 where_at ts = Some (None, ts)
+
+-- a condition that compares a column with a number, by what the three tokens say
+abbrev pub compared_at : Lexeme → Comparison → Lexeme → Lexemes → Read (Option (Condition ColumnName))
+compared_at column op value rest = do
+  bytes ← identifier_of column
+  n ← natural_of value
+  Some (Some (Compare op (Column (record { table = None; name = bytes })) (Literal (Int (pos n)))), rest)
 
 unfoldable pub group_at : Lexemes → Read (List ColumnName)
 group_at (keyword k.Group ∷ keyword k.By ∷ rest) = listed_at column_at rest
@@ -361,10 +373,6 @@ control_at (keyword k.Set ∷ keyword k.Names ∷ rest) = charset_at rest >>= λ
 control_at (keyword k.Set ∷ rest) = setting_at rest
 control_at _ = None
 
--- what select_at reads, as a statement
-abbrev pub select_statement_at : Lexemes → Read Statement
-select_statement_at ts = select_at ts >>= λ x. Some (Select x.0, x.1)
-
 unfoldable pub statement_at : Lexemes → Read Statement
 statement_at (keyword k.Select ∷ rest) = select_at rest >>= λ x. Some (Select x.0, x.1)
 statement_at (keyword k.Insert ∷ keyword k.Into ∷ rest) = insert_at rest >>= λ x. Some (Insert x.0, x.1)
@@ -380,8 +388,28 @@ is_end _ = false
 abbrev pub is_text : Statement × Lexemes → Bool
 is_text x = is_end x.1 && nat_le (literals_of x.0) max_literals && not (qualifies_outside_select x.0)
 
+-- a statement, if the text ends after it
+abbrev pub ended : Read Statement → Option Statement
+ended read = read >>= λ x. if is_text x then Some x.0 else None
+
 unfoldable pub text_at : Lexemes → Option Statement
-text_at ts = statement_at ts >>= λ x. if is_text x then Some x.0 else None
+text_at ts = ended (statement_at ts)
+
+-- the rest of a text after its first words
+abbrev pub select_text_at : Lexemes → Option Statement
+select_text_at ts = ended (select_at ts >>= λ x. Some (Select x.0, x.1))
+
+abbrev pub insert_text_at : Lexemes → Option Statement
+insert_text_at ts = ended (insert_at ts >>= λ x. Some (Insert x.0, x.1))
+
+abbrev pub update_text_at : Lexemes → Option Statement
+update_text_at ts = ended (update_at ts >>= λ x. Some (Update x.0, x.1))
+
+abbrev pub delete_text_at : Lexemes → Option Statement
+delete_text_at ts = ended (delete_at ts >>= λ x. Some (Delete x.0, x.1))
+
+abbrev pub control_text_at : Lexemes → Option Statement
+control_text_at ts = ended (control_at ts)
 
 -- not | not AND not AND .., as the grammar has it
 abbrev pub ReadsAnd : ℕ → Lexemes → Condition ColumnName → Type 0
