@@ -8,7 +8,8 @@ use Rattle.vschema.specs.declared.schema.Query.{Query}
 use Rattle.vschema.specs.Scopes.{Scope}
 use Rattle.vschema.specs.Checks.{names_unknown_column, select_is_not_supported, shows_ungrouped}
 use Rattle.vschema.specs.Joins.{join_is_refused}
-use Rattle.vschema.specs.TypedStatement.{over, checked}
+use Rattle.vschema.specs.declared.schema.Typed.TheVariants as typed
+use Rattle.vschema.specs.TypedStatement.{as_query, over, checked}
 
 -- why a query is refused after the checks of its names and kinds
 abbrev pub IsLate : Scope → Query → Refusal → Type 0
@@ -27,18 +28,11 @@ module _ (n : ℕ) (m : Option ℕ) (scope : Scope) (s : Select) (q : Query) (kn
   is_query joined grouped = rw (known, supported, (sym (ap (join_is_refused scope) is) ∙ joined), (sym (ap shows_ungrouped is) ∙ grouped)) (ap Ok (sym is))
 
   -- the query where nothing refuses it
-  pub grouped_ok : (r : Option Refusal) (out : Result Query Refusal) → IfNone r ((join_is_refused scope q ≡ false) × (shows_ungrouped q ≡ false))
-      → IfOk out (λ x. (x ≡ q) × (r ≡ None)) → IfOk out (λ x. checked n m scope s ≡ Ok x)
-  grouped_ok r (Err e) none ok = tt
-  grouped_ok r (Ok x) none ok =
-      let passes = subst (λ (r : Option Refusal). IfNone r ((join_is_refused scope q ≡ false) × (shows_ungrouped q ≡ false))) ok.1 none in
-      is_query passes.0 passes.1 ∙ ap Ok (sym ok.0)
+  pub passes : join_is_refused scope q ≡ false → shows_ungrouped q ≡ false → as_query (checked n m scope s) ≡ Ok (typed.Select q)
+  passes joined grouped = ap as_query (is_query joined grouped)
 
   -- its refusal
-  pub grouped_err : (r : Option Refusal) (out : Result Query Refusal) → IfSome r (IsLate scope q) → IfErr out (λ e. r ≡ Some e)
-      → IfErr out (λ e. (e ≡ OutOfMemory) ⊎ (checked n m scope s ≡ Err e))
-  grouped_err r (Ok x) some err = tt
-  grouped_err r (Err e) some err =
-      let why : IsLate scope q e = subst (λ (r : Option Refusal). IfSome r (IsLate scope q)) err some in
+  pub refuses : (r : Refusal) → IsLate scope q r → (r ≡ OutOfMemory) ⊎ (as_query (checked n m scope s) ≡ Err r)
+  refuses r why =
       ⊎_elim inl
-      (λ other. inr (⊎_elim (λ no. not_joined no.1 ∙ ap Err (sym no.0)) (λ no. not_grouped no.1.0 no.1.1 ∙ ap Err (sym no.0)) other)) why
+      (λ other. inr (ap as_query (⊎_elim (λ no. not_joined no.1 ∙ ap Err (sym no.0)) (λ no. not_grouped no.1.0 no.1.1 ∙ ap Err (sym no.0)) other))) why

@@ -5,7 +5,7 @@ ghost use Rattle.vschema.specs.Scopes.{only, both_of, scope_columns, ordinal_in}
 ghost use Rattle.vschema.specs.Joins.{left_ordinal, right_ordinal, resolved_join, join_is_refused};
 ghost use Rattle.vschema.specs.Schema.{table_ordinal};
 ghost use Rattle.vschema.specs.Resolved.{ordinal, ordinals_from, resolved_operand, resolved_condition, resolved_item, resolved_list, is_qualified, qualified_in, resolved_key};
-ghost use Rattle.vschema.specs.TypedStatement.{join_over, over, checked, checked_pair, checked_second, checked_with, typed_select, typed_statement};
+ghost use Rattle.vschema.specs.TypedStatement.{as_query, join_over, over, checked, checked_pair, checked_second, checked_with, typed_select};
 
 use crate::checks::{is_not_supported, names_unknown_column, shows_ungrouped};
 use crate::group_by::GroupBy;
@@ -145,8 +145,9 @@ fn all_columns(alloc: Global, scope: &Scope) -> Result<Items<Item<usize>>, Refus
     ensures ok { IfOk result (λ r. r ≡ map Item.Column (ordinals_from 0 (scope_columns scope.now))) }
     ensures err { IfErr result (λ e. e ≡ Refusal.OutOfMemory) }
 {
-    let mut shown = Items::new(alloc);
-    for ordinal in 0..column_count(scope) {
+    let count = column_count(scope);
+    let mut shown = Items::from_vec(Vec::with_capacity(alloc, count)?);
+    for ordinal in 0..count {
         shown.push(Item::Column(ordinal))?;
     }
     Ok(shown)
@@ -380,16 +381,6 @@ fn grouping_refusal(alloc: Global, query: &Query) -> Option<Refusal>
     }
 }
 
-fn unless_refused(query: Query, refusal: Option<Refusal>) -> Result<Query, Refusal>
-    ensures ok { IfOk result (λ q. (q ≡ query) × (refusal ≡ None)) }
-    ensures err { IfErr result (λ r. refusal ≡ Some r) }
-{
-    match refusal {
-        None => Ok(query),
-        Some(refusal) => Err(refusal),
-    }
-}
-
 // Why the query isn't taken: its join, or its groups.
 fn late_refusal(alloc: Global, scope: &Scope, query: &Query) -> Option<Refusal>
     ensures none { IfNone result ((join_is_refused scope.now query.now ≡ false) × (shows_ungrouped query.now ≡ false)) }
@@ -409,9 +400,9 @@ fn resolve_over(
     second: Option<usize>,
     scope: &Scope,
     select: &Select,
-) -> Result<Query, Refusal>
-    ensures ok { IfOk result (λ q. checked ordinal second scope.now select.now ≡ Ok q) }
-    ensures err { IfErr result (λ e. (e ≡ Refusal.OutOfMemory) ⊎ (checked ordinal second scope.now select.now ≡ Err e)) }
+) -> Result<Typed, Refusal>
+    ensures ok { IfOk result (λ t. as_query (checked ordinal second scope.now select.now) ≡ Ok t) }
+    ensures err { IfErr result (λ e. (e ≡ Refusal.OutOfMemory) ⊎ (as_query (checked ordinal second scope.now select.now) ≡ Err e)) }
 {
     if names_unknown_column(scope, select) {
         return Err(Refusal::UnknownColumn);
@@ -420,8 +411,10 @@ fn resolve_over(
         return Err(Refusal::NotSupported);
     }
     let query = query_over(alloc, hashing, ordinal, second, scope, select)?;
-    let refusal = late_refusal(alloc, scope, &query);
-    unless_refused(query, refusal)
+    match late_refusal(alloc, scope, &query) {
+        None => Ok(Typed::Select(query)),
+        Some(refusal) => Err(refusal),
+    }
 }
 
 // A query of two tables.
@@ -433,9 +426,9 @@ fn resolve_both(
     table: &Table,
     other: &Table,
     select: &Select,
-) -> Result<Query, Refusal>
-    ensures ok { IfOk result (λ q. checked ordinal (Some second) (both_of table.now other.now) select.now ≡ Ok q) }
-    ensures err { IfErr result (λ e. (e ≡ Refusal.OutOfMemory) ⊎ (checked ordinal (Some second) (both_of table.now other.now) select.now ≡ Err e)) }
+) -> Result<Typed, Refusal>
+    ensures ok { IfOk result (λ t. as_query (checked ordinal (Some second) (both_of table.now other.now) select.now) ≡ Ok t) }
+    ensures err { IfErr result (λ e. (e ≡ Refusal.OutOfMemory) ⊎ (as_query (checked ordinal (Some second) (both_of table.now other.now) select.now) ≡ Err e)) }
 {
     let scope = Scope::of_both(table, other);
     resolve_over(alloc, hashing, ordinal, Some(second), &scope, select)
@@ -449,9 +442,9 @@ fn resolve_alongside(
     second: usize,
     table: &Table,
     select: &Select,
-) -> Result<Query, Refusal>
-    ensures ok { IfOk result (λ q. checked_pair select.now ordinal second table.now (slice_get schema.now.tables second) ≡ Ok q) }
-    ensures err { IfErr result (λ e. (e ≡ Refusal.OutOfMemory) ⊎ (checked_pair select.now ordinal second table.now (slice_get schema.now.tables second) ≡ Err e)) }
+) -> Result<Typed, Refusal>
+    ensures ok { IfOk result (λ t. as_query (checked_pair select.now ordinal second table.now (slice_get schema.now.tables second)) ≡ Ok t) }
+    ensures err { IfErr result (λ e. (e ≡ Refusal.OutOfMemory) ⊎ (as_query (checked_pair select.now ordinal second table.now (slice_get schema.now.tables second)) ≡ Err e)) }
 {
     match schema.tables.as_slice().get(second) {
         Some(other) => {
@@ -470,9 +463,9 @@ fn resolve_pair(
     table: &Table,
     name: &Name,
     select: &Select,
-) -> Result<Query, Refusal>
-    ensures ok { IfOk result (λ q. checked_second schema.now select.now ordinal table.now (table_ordinal schema.now name.now) ≡ Ok q) }
-    ensures err { IfErr result (λ e. (e ≡ Refusal.OutOfMemory) ⊎ (checked_second schema.now select.now ordinal table.now (table_ordinal schema.now name.now) ≡ Err e)) }
+) -> Result<Typed, Refusal>
+    ensures ok { IfOk result (λ t. as_query (checked_second schema.now select.now ordinal table.now (table_ordinal schema.now name.now)) ≡ Ok t) }
+    ensures err { IfErr result (λ e. (e ≡ Refusal.OutOfMemory) ⊎ (as_query (checked_second schema.now select.now ordinal table.now (table_ordinal schema.now name.now)) ≡ Err e)) }
 {
     match table_ordinal(schema, name) {
         Some(second) => resolve_alongside(alloc, schema, ordinal, second, table, select),
@@ -487,9 +480,9 @@ fn resolve_alone(
     ordinal: usize,
     table: &Table,
     select: &Select,
-) -> Result<Query, Refusal>
-    ensures ok { IfOk result (λ q. checked ordinal None (only table.now) select.now ≡ Ok q) }
-    ensures err { IfErr result (λ e. (e ≡ Refusal.OutOfMemory) ⊎ (checked ordinal None (only table.now) select.now ≡ Err e)) }
+) -> Result<Typed, Refusal>
+    ensures ok { IfOk result (λ t. as_query (checked ordinal None (only table.now) select.now) ≡ Ok t) }
+    ensures err { IfErr result (λ e. (e ≡ Refusal.OutOfMemory) ⊎ (as_query (checked ordinal None (only table.now) select.now) ≡ Err e)) }
 {
     let scope = Scope::of(table);
     resolve_over(alloc, hashing, ordinal, None, &scope, select)
@@ -501,9 +494,9 @@ fn resolve_with(
     ordinal: usize,
     table: &Table,
     select: &Select,
-) -> Result<Query, Refusal>
-    ensures ok { IfOk result (λ q. checked_with schema.now select.now ordinal table.now select.now.join ≡ Ok q) }
-    ensures err { IfErr result (λ e. (e ≡ Refusal.OutOfMemory) ⊎ (checked_with schema.now select.now ordinal table.now select.now.join ≡ Err e)) }
+) -> Result<Typed, Refusal>
+    ensures ok { IfOk result (λ t. as_query (checked_with schema.now select.now ordinal table.now select.now.join) ≡ Ok t) }
+    ensures err { IfErr result (λ e. (e ≡ Refusal.OutOfMemory) ⊎ (as_query (checked_with schema.now select.now ordinal table.now select.now.join) ≡ Err e)) }
 {
     match &select.join {
         Some(join) => resolve_pair(alloc, schema, ordinal, table, &join.table, select),
@@ -511,9 +504,9 @@ fn resolve_with(
     }
 }
 
-fn resolve_select(alloc: Global, schema: &VSchema, select: &Select) -> Result<Query, Refusal>
-    ensures ok { IfOk result (λ q. typed_select schema.now select.now ≡ Ok q) }
-    ensures err { IfErr result (λ e. (e ≡ Refusal.OutOfMemory) ⊎ (typed_select schema.now select.now ≡ Err e)) }
+fn resolve_select(alloc: Global, schema: &VSchema, select: &Select) -> Result<Typed, Refusal>
+    ensures ok { IfOk result (λ t. as_query (typed_select schema.now select.now) ≡ Ok t) }
+    ensures err { IfErr result (λ e. (e ≡ Refusal.OutOfMemory) ⊎ (as_query (typed_select schema.now select.now) ≡ Err e)) }
 {
     let Some(ordinal) = table_ordinal(schema, &select.table) else {
         return Err(Refusal::UnknownTable);
@@ -533,22 +526,10 @@ impl VSchema {
         ensures err { IfErr result (λ e. (e ≡ Refusal.OutOfMemory) ⊎ (typed_statement self.now statement.now ≡ Err e)) }
     {
         match statement {
-            Statement::Select(select) => {
-                let query = resolve_select(alloc, self, select)?;
-                Ok(Typed::Select(query))
-            }
-            Statement::Insert(insert) => {
-                let write = resolve_insert(alloc, self, insert)?;
-                Ok(Typed::Write(write))
-            }
-            Statement::Update(update) => {
-                let write = resolve_update(alloc, self, update)?;
-                Ok(Typed::Write(write))
-            }
-            Statement::Delete(delete) => {
-                let write = resolve_delete(alloc, self, delete)?;
-                Ok(Typed::Write(write))
-            }
+            Statement::Select(select) => resolve_select(alloc, self, select),
+            Statement::Insert(insert) => resolve_insert(alloc, self, insert),
+            Statement::Update(update) => resolve_update(alloc, self, update),
+            Statement::Delete(delete) => resolve_delete(alloc, self, delete),
             Statement::Begin => Ok(Typed::Begin),
             Statement::Commit => Ok(Typed::Commit),
             Statement::Rollback => Ok(Typed::Rollback),
@@ -568,8 +549,6 @@ impl VSchema {
         ensures ok { IfOk result (λ typed. typed_statement self.now statement ≡ Ok typed) }
         ensures err { IfErr result (λ e. (e ≡ Refusal.OutOfMemory) ⊎ (typed_statement self.now statement ≡ Err e)) }
     {
-        let typed = self.typed(alloc, &statement);
-        drop(statement);
-        typed
+        self.typed(alloc, &statement)
     }
 }

@@ -1,14 +1,13 @@
 //! What is refused of a write: rows of another length, values outside their column's type, and changes of a key.
 ghost use Rattle.std.specs.Prelude.{◌≡◌, ◌==◌, not, ◌&&◌, map, zip, flat_map, length, bytes_eq};
 ghost use Rattle.std.specs.List.{list_any};
-ghost use Rattle.vschema.specs.Resolved.{ordinal, ordinals_from};
+ghost use Rattle.vschema.specs.Resolved.{ordinals_from};
 ghost use Rattle.vschema.specs.Checks.{is_unknown, has_number};
 ghost use Rattle.vschema.specs.WriteChecks.{with_column, is_out_of_range, is_too_long, is_key_column};
 ghost use Rattle.vschema.specs.inner.StoredChecks.{fails};
 
 use crate::checks::{differ, has_number, is_text_type, value_is_text};
 use crate::names::is_unknown;
-use crate::resolve::ordinal;
 use crate::schema::Table;
 use sql_tree::{Assignment, Name};
 use vschema_json::{Column, ColumnType};
@@ -21,6 +20,8 @@ pub enum StoredCheck {
     WrongNull,
     OutOfRange,
     TooLong,
+    /// One of the last three.
+    Unfit,
 }
 
 /// Whether a row has another number of values than these.
@@ -70,6 +71,11 @@ fn fails(check: StoredCheck, column: &Column, value: &Value) -> bool
         StoredCheck::WrongNull => matches!(value, Value::Null) && !column.nullable,
         StoredCheck::OutOfRange => is_out_of_range(column.kind, value),
         StoredCheck::TooLong => is_too_long(column.kind, value),
+        StoredCheck::Unfit => {
+            matches!(value, Value::Null) && !column.nullable
+                || is_out_of_range(column.kind, value)
+                || is_too_long(column.kind, value)
+        }
     }
 }
 
@@ -112,11 +118,15 @@ pub fn rows_fail(
 }
 
 /// Whether a value that SET stores fails.
-pub fn assignments_fail(check: StoredCheck, table: &Table, assignments: &[Assignment<Name>]) -> bool
-    ensures { result ≡ list_any (fails check) (flat_map (λ a. with_column table.now (ordinal table.now a.column) a.value) assignments.now) }
+pub fn assignments_fail(
+    check: StoredCheck,
+    table: &Table,
+    assignments: &[Assignment<usize>],
+) -> bool
+    ensures { result ≡ list_any (fails check) (flat_map (λ a. with_column table.now a.column a.value) assignments.now) }
 {
     for a in assignments {
-        if value_fails(check, table, ordinal(table, &a.column), &a.value) {
+        if value_fails(check, table, a.column, &a.value) {
             return true;
         }
     }
@@ -147,10 +157,8 @@ fn is_key_column(table: &Table, ordinal: usize) -> bool
 }
 
 /// Whether SET sets a column of the primary key, or the vindex column.
-pub fn sets_key(table: &Table, assignments: &[Assignment<Name>]) -> bool
-    ensures { result ≡ list_any (λ a. is_key_column table.now (ordinal table.now a.column)) assignments.now }
+pub fn sets_key(table: &Table, assignments: &[Assignment<usize>]) -> bool
+    ensures { result ≡ list_any (λ a. is_key_column table.now a.column) assignments.now }
 {
-    assignments
-        .iter()
-        .any(|a| is_key_column(table, ordinal(table, &a.column)))
+    assignments.iter().any(|a| is_key_column(table, a.column))
 }

@@ -1,8 +1,9 @@
 //! INSERT, UPDATE and DELETE with their names resolved, or the refusal of the first check that fails.
-ghost use Rattle.std.specs.Prelude.{◌≡◌, ◌⊎◌, ◌==◌, IfOk, IfErr, map, option_map, false, Ok, Err};
+ghost use Rattle.std.specs.Prelude.{◌≡◌, ◌⊎◌, ◌==◌, IfOk, IfErr, IfSome, map, option_map, false, Ok, Err};
 ghost use Rattle.vschema.specs.Schema.{ordinal_from};
 ghost use Rattle.vschema.specs.Resolved.{ordinals_from};
-ghost use Rattle.vschema.specs.WriteChecks.{has_twice, sets_twice, listed_names, insert_ordinals, has_wrong_count, insert_names_unknown, inserted_values, has_other_kind, leaves_out_column, assigned_values, update_names_unknown, update_is_not_supported};
+ghost use Rattle.vschema.specs.WriteChecks.{has_twice, sets_twice, listed_names, insert_ordinals, has_wrong_count, insert_names_unknown, inserted_values, has_other_kind, leaves_out_column, assigned_values, update_names_unknown, sets_key, update_is_not_supported};
+ghost use Rattle.vschema.specs.TypedStatement.{as_write};
 ghost use Rattle.vschema.specs.TypedWrites.{value_for, whole_row, resolved_assignment, insert_over, update_over, delete_over, unless_refused, stored_checks, insert_checks, update_checks, delete_checks, typed_insert, typed_update, typed_delete};
 ghost use Rattle.vschema.specs.inner.StoredChecks.{fails, unless};
 ghost use Rattle.std.specs.List.{list_any};
@@ -11,7 +12,7 @@ use crate::changes::Write;
 use crate::checks::{filter_mixes, filter_names_unknown, some_unknown};
 use crate::names::table_ordinal;
 use crate::resolve::{ordinal, resolve_filter, resolve_names};
-use crate::schema::{Table, VSchema};
+use crate::schema::{Table, Typed, VSchema};
 use crate::scope::Scope;
 use crate::twice::sets_twice;
 use crate::write_checks::{
@@ -22,6 +23,21 @@ use sql_tree::{Assignment, Delete, Insert, Name, Update};
 use std::alloc::Global;
 use vschema_json::has_twice;
 use vt_value::{Items, Refusal, Row, Value, copy};
+
+/// The first ordinals.
+static FIRST: [usize; 16] = [0, 1, 2, 3, 4, 5, 6, 7, 8, 9, 10, 11, 12, 13, 14, 15];
+
+/// All ordinals of a table with few columns. Takes no memory.
+fn few_ordinals(table: &Table) -> Option<&'static [usize]>
+    ensures { IfSome result (λ ordinals. ordinals.now ≡ ordinals_from 0 table.now.columns) }
+{
+    let count = table.columns.as_slice().len();
+    if count <= FIRST.len() {
+        Some(&FIRST[..count])
+    } else {
+        None
+    }
+}
 
 fn all_ordinals(alloc: Global, table: &Table) -> Result<Items<usize>, Refusal>
     ensures ok { IfOk result (λ r. r ≡ ordinals_from 0 table.now.columns) }
@@ -88,7 +104,9 @@ fn inserted_refusal(table: &Table, insert: &Insert, ordinals: &[usize]) -> Optio
     requires ordinals { ordinals.now ≡ insert_ordinals table.now insert.now.columns }
     ensures { (w : Write) → unless_refused (stored_checks (inserted_values table.now insert.now)) w ≡ unless result w }
 {
-    if insert_fails(StoredCheck::WrongNull, table, insert, ordinals) {
+    if !insert_fails(StoredCheck::Unfit, table, insert, ordinals) {
+        None
+    } else if insert_fails(StoredCheck::WrongNull, table, insert, ordinals) {
         Some(Refusal::NullNotAllowed)
     } else if insert_fails(StoredCheck::OutOfRange, table, insert, ordinals) {
         Some(Refusal::OutOfRange)
@@ -96,6 +114,16 @@ fn inserted_refusal(table: &Table, insert: &Insert, ordinals: &[usize]) -> Optio
         Some(Refusal::TooLong)
     } else {
         None
+    }
+}
+
+/// The ordinals of INSERT's columns, if it names none and the table has few. Takes no memory.
+fn ordinals_at_once(table: &Table, columns: &Option<Items<Name>>) -> Option<&'static [usize]>
+    ensures { IfSome result (λ ordinals. ordinals.now ≡ insert_ordinals table.now columns.now) }
+{
+    match columns {
+        None => few_ordinals(table),
+        Some(_) => None,
     }
 }
 
@@ -156,8 +184,9 @@ fn whole_row(
     ensures ok { IfOk result (λ r. r ≡ whole_row table.now ordinals.now values.now) }
     ensures err { IfErr result (λ e. e ≡ Refusal.OutOfMemory) }
 {
-    let mut row = Items::new(alloc);
-    for (ordinal, _) in table.columns.as_slice().iter().enumerate() {
+    let columns = table.columns.as_slice();
+    let mut row = Items::from_vec(Vec::with_capacity(alloc, columns.len())?);
+    for (ordinal, _) in columns.iter().enumerate() {
         let value = value_for(alloc, ordinals, values, ordinal)?;
         row.push(value)?;
     }
@@ -173,7 +202,7 @@ fn whole_rows(
     ensures ok { IfOk result (λ r. r ≡ map (whole_row table.now ordinals.now) rows.now) }
     ensures err { IfErr result (λ e. e ≡ Refusal.OutOfMemory) }
 {
-    let mut whole = Items::new(alloc);
+    let mut whole = Items::from_vec(Vec::with_capacity(alloc, rows.len())?);
     for row in rows {
         let row = whole_row(alloc, table, ordinals, row.as_slice())?;
         whole.push(row)?;
@@ -181,25 +210,47 @@ fn whole_rows(
     Ok(whole)
 }
 
+// An INSERT that names no column twice.
+fn insert_at(
+    alloc: Global,
+    ordinal: usize,
+    table: &Table,
+    insert: &Insert,
+    ordinals: &[usize],
+) -> Result<Typed, Refusal>
+    requires ordinals { ordinals.now ≡ insert_ordinals table.now insert.now.columns }
+    requires once { has_twice (listed_names insert.now.columns) ≡ false }
+    ensures ok { IfOk result (λ t. as_write (unless_refused (insert_checks table.now insert.now) (insert_over ordinal table.now insert.now)) ≡ Ok t) }
+    ensures err { IfErr result (λ e. (e ≡ Refusal.OutOfMemory)
+        ⊎ (as_write (unless_refused (insert_checks table.now insert.now) (insert_over ordinal table.now insert.now)) ≡ Err e)) }
+{
+    if let Some(refusal) = insert_refusal(table, insert, ordinals) {
+        return Err(refusal);
+    }
+    let rows = whole_rows(alloc, table, ordinals, insert.rows.as_slice())?;
+    Ok(Typed::Write(Write::Insert(ordinal, rows)))
+}
+
 fn insert_into(
     alloc: Global,
     ordinal: usize,
     table: &Table,
     insert: &Insert,
-) -> Result<Write, Refusal>
-    ensures ok { IfOk result (λ w. unless_refused (insert_checks table.now insert.now) (insert_over ordinal table.now insert.now) ≡ Ok w) }
+) -> Result<Typed, Refusal>
+    ensures ok { IfOk result (λ t. as_write (unless_refused (insert_checks table.now insert.now) (insert_over ordinal table.now insert.now)) ≡ Ok t) }
     ensures err { IfErr result (λ e. (e ≡ Refusal.OutOfMemory)
-        ⊎ (unless_refused (insert_checks table.now insert.now) (insert_over ordinal table.now insert.now) ≡ Err e)) }
+        ⊎ (as_write (unless_refused (insert_checks table.now insert.now) (insert_over ordinal table.now insert.now)) ≡ Err e)) }
 {
     if has_twice(alloc, names_of(&insert.columns))? {
         return Err(Refusal::ColumnNamedTwice);
     }
-    let ordinals = insert_ordinals(alloc, table, &insert.columns)?;
-    if let Some(refusal) = insert_refusal(table, insert, ordinals.as_slice()) {
-        return Err(refusal);
+    match ordinals_at_once(table, &insert.columns) {
+        Some(ordinals) => insert_at(alloc, ordinal, table, insert, ordinals),
+        None => {
+            let ordinals = insert_ordinals(alloc, table, &insert.columns)?;
+            insert_at(alloc, ordinal, table, insert, ordinals.as_slice())
+        }
     }
-    let rows = whole_rows(alloc, table, ordinals.as_slice(), insert.rows.as_slice())?;
-    Ok(Write::Insert(ordinal, rows))
 }
 
 fn update_names_unknown(table: &Table, update: &Update) -> bool
@@ -209,41 +260,77 @@ fn update_names_unknown(table: &Table, update: &Update) -> bool
         || filter_names_unknown(&Scope::of(table), &update.filter)
 }
 
-fn update_is_not_supported(table: &Table, update: &Update) -> bool
-    ensures { result ≡ update_is_not_supported table.now update.now }
+// Whether a value that SET stores fails; `assignments` are SET's with their columns by ordinals.
+fn update_fails(
+    check: StoredCheck,
+    table: &Table,
+    update: &Update,
+    assignments: &[Assignment<usize>],
+) -> bool
+    requires resolved { assignments.now ≡ map (resolved_assignment table.now) update.now.assignments }
+    ensures { result ≡ list_any (fails check) (assigned_values table.now update.now) }
 {
-    let assignments = update.assignments.as_slice();
-    filter_mixes(&Scope::of(table), &update.filter)
-        || assignments_fail(StoredCheck::OtherKind, table, assignments)
-        || sets_key(table, assignments)
+    assignments_fail(check, table, assignments)
 }
 
-fn assigned_refusal(table: &Table, update: &Update) -> Option<Refusal>
+// Whether SET sets a key; `assignments` are SET's with their columns by ordinals.
+fn update_sets_key(table: &Table, update: &Update, assignments: &[Assignment<usize>]) -> bool
+    requires resolved { assignments.now ≡ map (resolved_assignment table.now) update.now.assignments }
+    ensures { result ≡ sets_key table.now update.now }
+{
+    sets_key(table, assignments)
+}
+
+fn update_is_not_supported(
+    table: &Table,
+    update: &Update,
+    assignments: &[Assignment<usize>],
+) -> bool
+    requires resolved { assignments.now ≡ map (resolved_assignment table.now) update.now.assignments }
+    ensures { result ≡ update_is_not_supported table.now update.now }
+{
+    filter_mixes(&Scope::of(table), &update.filter)
+        || update_fails(StoredCheck::OtherKind, table, update, assignments)
+        || update_sets_key(table, update, assignments)
+}
+
+fn assigned_refusal(
+    table: &Table,
+    update: &Update,
+    assignments: &[Assignment<usize>],
+) -> Option<Refusal>
+    requires resolved { assignments.now ≡ map (resolved_assignment table.now) update.now.assignments }
     ensures { (w : Write) → unless_refused (stored_checks (assigned_values table.now update.now)) w ≡ unless result w }
 {
-    let assignments = update.assignments.as_slice();
-    if assignments_fail(StoredCheck::WrongNull, table, assignments) {
+    if !update_fails(StoredCheck::Unfit, table, update, assignments) {
+        None
+    } else if update_fails(StoredCheck::WrongNull, table, update, assignments) {
         Some(Refusal::NullNotAllowed)
-    } else if assignments_fail(StoredCheck::OutOfRange, table, assignments) {
+    } else if update_fails(StoredCheck::OutOfRange, table, update, assignments) {
         Some(Refusal::OutOfRange)
-    } else if assignments_fail(StoredCheck::TooLong, table, assignments) {
+    } else if update_fails(StoredCheck::TooLong, table, update, assignments) {
         Some(Refusal::TooLong)
     } else {
         None
     }
 }
 
-// The refusal of an UPDATE that sets no column twice.
-fn update_refusal(table: &Table, update: &Update) -> Option<Refusal>
+// The refusal of an UPDATE that sets no column twice; `assignments` are SET's with their columns by ordinals.
+fn update_refusal(
+    table: &Table,
+    update: &Update,
+    assignments: &[Assignment<usize>],
+) -> Option<Refusal>
+    requires resolved { assignments.now ≡ map (resolved_assignment table.now) update.now.assignments }
     requires once { sets_twice update.now.assignments ≡ false }
     ensures { (w : Write) → unless_refused (update_checks table.now update.now) w ≡ unless result w }
 {
     if update_names_unknown(table, update) {
         Some(Refusal::UnknownColumn)
-    } else if update_is_not_supported(table, update) {
+    } else if update_is_not_supported(table, update, assignments) {
         Some(Refusal::NotSupported)
     } else {
-        assigned_refusal(table, update)
+        assigned_refusal(table, update, assignments)
     }
 }
 
@@ -270,7 +357,7 @@ fn resolve_assignments(
     ensures ok { IfOk result (λ r. r ≡ map (resolved_assignment table.now) assignments.now) }
     ensures err { IfErr result (λ e. e ≡ Refusal.OutOfMemory) }
 {
-    let mut resolved = Items::new(alloc);
+    let mut resolved = Items::from_vec(Vec::with_capacity(alloc, assignments.len())?);
     for a in assignments {
         let a = resolve_assignment(alloc, table, a)?;
         resolved.push(a)?;
@@ -283,20 +370,20 @@ fn update_of(
     ordinal: usize,
     table: &Table,
     update: &Update,
-) -> Result<Write, Refusal>
-    ensures ok { IfOk result (λ w. unless_refused (update_checks table.now update.now) (update_over ordinal table.now update.now) ≡ Ok w) }
+) -> Result<Typed, Refusal>
+    ensures ok { IfOk result (λ t. as_write (unless_refused (update_checks table.now update.now) (update_over ordinal table.now update.now)) ≡ Ok t) }
     ensures err { IfErr result (λ e. (e ≡ Refusal.OutOfMemory)
-        ⊎ (unless_refused (update_checks table.now update.now) (update_over ordinal table.now update.now) ≡ Err e)) }
+        ⊎ (as_write (unless_refused (update_checks table.now update.now) (update_over ordinal table.now update.now)) ≡ Err e)) }
 {
     if sets_twice(alloc, update.assignments.as_slice())? {
         return Err(Refusal::ColumnNamedTwice);
     }
-    if let Some(refusal) = update_refusal(table, update) {
+    let assignments = resolve_assignments(alloc, table, update.assignments.as_slice())?;
+    if let Some(refusal) = update_refusal(table, update, assignments.as_slice()) {
         return Err(refusal);
     }
-    let assignments = resolve_assignments(alloc, table, update.assignments.as_slice())?;
     let filter = resolve_filter(alloc, &Scope::of(table), &update.filter)?;
-    Ok(Write::Update(ordinal, assignments, filter))
+    Ok(Typed::Write(Write::Update(ordinal, assignments, filter)))
 }
 
 fn delete_from(
@@ -304,10 +391,10 @@ fn delete_from(
     ordinal: usize,
     table: &Table,
     delete: &Delete,
-) -> Result<Write, Refusal>
-    ensures ok { IfOk result (λ w. unless_refused (delete_checks table.now delete.now) (delete_over ordinal table.now delete.now) ≡ Ok w) }
+) -> Result<Typed, Refusal>
+    ensures ok { IfOk result (λ t. as_write (unless_refused (delete_checks table.now delete.now) (delete_over ordinal table.now delete.now)) ≡ Ok t) }
     ensures err { IfErr result (λ e. (e ≡ Refusal.OutOfMemory)
-        ⊎ (unless_refused (delete_checks table.now delete.now) (delete_over ordinal table.now delete.now) ≡ Err e)) }
+        ⊎ (as_write (unless_refused (delete_checks table.now delete.now) (delete_over ordinal table.now delete.now)) ≡ Err e)) }
 {
     if filter_names_unknown(&Scope::of(table), &delete.filter) {
         return Err(Refusal::UnknownColumn);
@@ -316,13 +403,13 @@ fn delete_from(
         return Err(Refusal::NotSupported);
     }
     let filter = resolve_filter(alloc, &Scope::of(table), &delete.filter)?;
-    Ok(Write::Delete(ordinal, filter))
+    Ok(Typed::Write(Write::Delete(ordinal, filter)))
 }
 
 /// What an INSERT means, or the refusal of the first check that fails.
-pub fn resolve_insert(alloc: Global, schema: &VSchema, insert: &Insert) -> Result<Write, Refusal>
-    ensures ok { IfOk result (λ w. typed_insert schema.now insert.now ≡ Ok w) }
-    ensures err { IfErr result (λ e. (e ≡ Refusal.OutOfMemory) ⊎ (typed_insert schema.now insert.now ≡ Err e)) }
+pub fn resolve_insert(alloc: Global, schema: &VSchema, insert: &Insert) -> Result<Typed, Refusal>
+    ensures ok { IfOk result (λ t. as_write (typed_insert schema.now insert.now) ≡ Ok t) }
+    ensures err { IfErr result (λ e. (e ≡ Refusal.OutOfMemory) ⊎ (as_write (typed_insert schema.now insert.now) ≡ Err e)) }
 {
     let Some(ordinal) = table_ordinal(schema, &insert.table) else {
         return Err(Refusal::UnknownTable);
@@ -334,9 +421,9 @@ pub fn resolve_insert(alloc: Global, schema: &VSchema, insert: &Insert) -> Resul
 }
 
 /// What an UPDATE means, or the refusal of the first check that fails.
-pub fn resolve_update(alloc: Global, schema: &VSchema, update: &Update) -> Result<Write, Refusal>
-    ensures ok { IfOk result (λ w. typed_update schema.now update.now ≡ Ok w) }
-    ensures err { IfErr result (λ e. (e ≡ Refusal.OutOfMemory) ⊎ (typed_update schema.now update.now ≡ Err e)) }
+pub fn resolve_update(alloc: Global, schema: &VSchema, update: &Update) -> Result<Typed, Refusal>
+    ensures ok { IfOk result (λ t. as_write (typed_update schema.now update.now) ≡ Ok t) }
+    ensures err { IfErr result (λ e. (e ≡ Refusal.OutOfMemory) ⊎ (as_write (typed_update schema.now update.now) ≡ Err e)) }
 {
     let Some(ordinal) = table_ordinal(schema, &update.table) else {
         return Err(Refusal::UnknownTable);
@@ -348,9 +435,9 @@ pub fn resolve_update(alloc: Global, schema: &VSchema, update: &Update) -> Resul
 }
 
 /// What a DELETE means, or the refusal of the first check that fails.
-pub fn resolve_delete(alloc: Global, schema: &VSchema, delete: &Delete) -> Result<Write, Refusal>
-    ensures ok { IfOk result (λ w. typed_delete schema.now delete.now ≡ Ok w) }
-    ensures err { IfErr result (λ e. (e ≡ Refusal.OutOfMemory) ⊎ (typed_delete schema.now delete.now ≡ Err e)) }
+pub fn resolve_delete(alloc: Global, schema: &VSchema, delete: &Delete) -> Result<Typed, Refusal>
+    ensures ok { IfOk result (λ t. as_write (typed_delete schema.now delete.now) ≡ Ok t) }
+    ensures err { IfErr result (λ e. (e ≡ Refusal.OutOfMemory) ⊎ (as_write (typed_delete schema.now delete.now) ≡ Err e)) }
 {
     let Some(ordinal) = table_ordinal(schema, &delete.table) else {
         return Err(Refusal::UnknownTable);
