@@ -116,7 +116,7 @@ fn compared<'s>(
     Ok((Some(condition), rest))
 }
 
-/// Any condition, after WHERE.
+/// Any condition, after WHERE. It is no part of `filter`, so that a query by a key doesn't pay for its room.
 #[inline(never)]
 fn any_filter<'s>(
     alloc: Global,

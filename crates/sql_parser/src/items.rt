@@ -79,7 +79,7 @@ fn item<'s>(
     }
 }
 
-/// item,..
+/// item,.. It is no part of `list`, so that `*` doesn't pay for its room.
 #[inline(never)]
 fn items<'s>(
     alloc: Global,

@@ -151,7 +151,9 @@ fn control<'s>(
     }
 }
 
-/// A statement of sessions and transactions, to the end of the text.
+/// A statement of sessions and transactions, to the end of the text. It is no part of `whole`, so that other statements don't
+/// pay for its room.
+#[inline(never)]
 fn whole_control(alloc: Global, text: &[u8], tokens: &[Token]) -> Result<Statement, Refusal>
     ensures { AgreesWith (λ x. x) result (control_text_at (lexemes_of text.now tokens.now)) }
 {
