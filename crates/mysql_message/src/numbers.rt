@@ -60,6 +60,30 @@ pub fn length_encoded(n: u64) -> ArrayVec<u8, 9>
     }
 }
 
+/// Makes room for so many more bytes. Mostly it is there, and then nothing is called.
+fn make_room(more: usize, out: &mut BytesMut) -> Result<(), AllocError>
+    ensures items { out.new.items ≡ out.old.items }
+    ensures room { OnOk result (more ≤ out.new.spare) }
+    ensures capacity { out.old.spare ≤ out.new.spare }
+{
+    if out.capacity() - out.len() >= more {
+        return Ok(());
+    }
+    out.reserve(more)
+}
+
+/// Appends bytes. It leaves `out` as it was if a growth is refused.
+pub fn put_bytes(bytes: &[u8], out: &mut BytesMut) -> Result<(), AllocError>
+    ensures ok { OnOk result (out.new.items ≡ out.old.items ++ bytes.now) }
+    ensures err { OnErr result (out.new.items ≡ out.old.items) }
+    // No room is ever lost.
+    ensures capacity { length out.old.items + out.old.spare ≤ length out.new.items + out.new.spare }
+{
+    make_room(bytes.len(), out)?;
+    out.extend_reserved(bytes);
+    Ok(())
+}
+
 /// Appends a number in its shortest length-encoded form. It leaves `out` as it was if a growth is refused.
 pub fn put_length_encoded(n: u64, out: &mut BytesMut) -> Result<(), AllocError>
     ensures ok { OnOk result (out.new.items ≡ out.old.items ++ length_encoded n) }
@@ -68,9 +92,9 @@ pub fn put_length_encoded(n: u64, out: &mut BytesMut) -> Result<(), AllocError>
     ensures capacity { length out.old.items + out.old.spare ≤ length out.new.items + out.new.spare }
 {
     if n < 251 {
-        return out.extend_from_slice(&[n as u8]);
+        return put_bytes(&[n as u8], out);
     }
-    out.extend_from_slice(length_encoded(n).as_slice())
+    put_bytes(length_encoded(n).as_slice(), out)
 }
 
 /// Appends a short text after its length, which is one byte, with room made once.
@@ -80,7 +104,7 @@ fn put_short_string(text: &[u8], out: &mut BytesMut) -> Result<(), AllocError>
     // No room is ever lost.
     ensures capacity { length out.old.items + out.old.spare ≤ length out.new.items + out.new.spare }
 {
-    out.reserve(text.len() + 1)?;
+    make_room(text.len() + 1, out)?;
     out.extend_reserved(&[text.len() as u8]);
     out.extend_reserved(text);
     Ok(())
@@ -96,7 +120,7 @@ pub fn put_length_encoded_string(text: &[u8], out: &mut BytesMut) -> Result<(), 
         return put_short_string(text, out);
     }
     put_length_encoded(text.len() as u64, out)?;
-    out.extend_from_slice(text)
+    put_bytes(text, out)
 }
 
 /// The number at the front of the bytes, in its shortest length-encoded form, and what follows it.

@@ -7,6 +7,7 @@ ghost use Rattle.resultset.specs.inner.Parts.{part_payload, open_packet};
 
 use crate::parts::Part;
 use bytes::BytesMut;
+use mysql_message::numbers::put_bytes;
 use std::alloc::Global;
 use std::marker::Model;
 use std::mem;
@@ -182,7 +183,7 @@ fn put_open(number: u8, part: &Part, out: &mut BytesMut) -> Result<(), Refusal>
     ensures err { IfErr result (λ e. e ≡ Refusal.OutOfMemory) }
     ensures capacity { length out.old.items + out.old.spare ≤ length out.new.items + out.new.spare }
 {
-    out.extend_from_slice(&[0, 0, 0, number])?;
+    put_bytes(&[0, 0, 0, number], out)?;
     part.put(out)
 }
 

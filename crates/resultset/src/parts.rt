@@ -5,7 +5,7 @@ ghost use Rattle.resultset.specs.inner.Parts.{part_payload};
 use crate::Column;
 use crate::writing::{put_definition, put_row};
 use bytes::BytesMut;
-use mysql_message::numbers::put_length_encoded;
+use mysql_message::numbers::{put_bytes, put_length_encoded};
 use mysql_message::{eof_payload, set_end_payload};
 use vt_value::{Refusal, Value};
 
@@ -85,11 +85,11 @@ impl<'a> Part<'a> {
                 Ok(())
             }
             Part::Eof(status) => {
-                out.extend_from_slice(&eof_payload(*status))?;
+                put_bytes(&eof_payload(*status), out)?;
                 Ok(())
             }
             Part::SetEnd(status) => {
-                out.extend_from_slice(&set_end_payload(*status))?;
+                put_bytes(&set_end_payload(*status), out)?;
                 Ok(())
             }
         }

@@ -10,7 +10,9 @@ ghost use Rattle.resultset.specs.inner.Heads.{head_payloads};
 use crate::{Column, Kind, Outcome, ResultSet, SetEnd};
 use bytes::BytesMut;
 use itoa::Buffer;
-use mysql_message::numbers::{little_endian, put_length_encoded, put_length_encoded_string};
+use mysql_message::numbers::{
+    little_endian, put_bytes, put_length_encoded, put_length_encoded_string,
+};
 use mysql_message::{put_eof, put_err, put_ok, put_set_end};
 use mysql_packet::put_payload;
 use std::alloc::Global;
@@ -215,7 +217,7 @@ fn put_names(column: &Column, payload: &mut BytesMut) -> Result<(), Refusal>
     ensures memory { IfErr result (λ e. e ≡ Refusal.OutOfMemory) }
     ensures capacity { length payload.old.items + payload.old.spare ≤ length payload.new.items + payload.new.spare }
 {
-    payload.extend_from_slice(CATALOG)?;
+    put_bytes(CATALOG, payload)?;
     put_length_encoded_string(column.schema.as_slice(), payload)?;
     put_length_encoded_string(column.table.as_slice(), payload)?;
     put_length_encoded_string(column.table.as_slice(), payload)?;
@@ -231,7 +233,7 @@ fn put_fixed_fields(kind: Kind, flags: u16, payload: &mut BytesMut) -> Result<()
     ensures capacity { length payload.old.items + payload.old.spare ≤ length payload.new.items + payload.new.spare }
 {
     let [low, high, ..] = little_endian(u64::from(flags));
-    payload.extend_from_slice(&[
+    let fields = [
         0x0C,
         63,
         0,
@@ -245,7 +247,8 @@ fn put_fixed_fields(kind: Kind, flags: u16, payload: &mut BytesMut) -> Result<()
         0,
         0,
         0,
-    ])?;
+    ];
+    put_bytes(&fields, payload)?;
     Ok(())
 }
 
@@ -287,7 +290,7 @@ fn put_value(value: &Value, payload: &mut BytesMut) -> Result<(), Refusal>
     ensures capacity { length payload.old.items + payload.old.spare ≤ length payload.new.items + payload.new.spare }
 {
     match value {
-        Value::Null => payload.extend_from_slice(&[0xFB])?,
+        Value::Null => put_bytes(&[0xFB], payload)?,
         Value::Int(n) => put_length_encoded_string(Buffer::new().format(*n).as_bytes(), payload)?,
         Value::Bytes(text) => put_length_encoded_string(text.as_slice(), payload)?,
     }
