@@ -11,6 +11,7 @@ mod narrowed;
 mod ordered;
 mod queries;
 mod rows;
+mod shown_rows;
 mod source;
 mod writes;
 

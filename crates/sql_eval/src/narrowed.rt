@@ -102,6 +102,14 @@ pub struct Whole {
     pub ordinals: Items<usize>,
 }
 
+/// Whether the items are few and no item is there twice.
+#[tactic(auto, using(crate::proofs::NarrowLemmas::all_apart))]
+fn are_few_apart(items: &[Item<usize>]) -> bool
+    ensures { IsTrue result → distinct_items items.now ≡ items.now }
+{
+    items.len() <= FEW && are_apart(items)
+}
+
 /// The different items of a list, and where each of the list is among them; `None` if all are different. Refuses only for want of
 /// memory.
 fn different(
@@ -113,9 +121,6 @@ fn different(
     ensures ordinals { IfOk result (λ r. IfSome r (λ s. map (slice_get s.0) s.1 ≡ map Some items.now)) }
     ensures err { IfErr result (λ e. e ≡ Refusal.OutOfMemory) }
 {
-    if items.len() <= FEW && are_apart(items) {
-        return Ok(None);
-    }
     let seen = Seen::of(alloc, items)?;
     if seen.items.len() == items.len() {
         return Ok(None);
@@ -182,6 +187,23 @@ impl Model for Narrowed {
     ghost invariant = { λ n. IsNarrowing n.query n.whole };
 }
 
+// The query that shows each item of this one once.
+fn narrow(alloc: Global, query: Query) -> Result<Narrowed, Refusal>
+    ensures ok { IfOk result (λ n. n ≡ query) }
+    ensures err { IfErr result (λ e. e ≡ Refusal.OutOfMemory) }
+{
+    match different(alloc, query.items.as_slice())? {
+        None => Ok(Narrowed { query, whole: None }),
+        Some((items, ordinals)) => {
+            let (query, whole) = showing(query, items, ordinals);
+            Ok(Narrowed {
+                query,
+                whole: Some(whole),
+            })
+        }
+    }
+}
+
 impl Narrowed {
     // Promise: A query that shows items again and again is run with each of them once: of whatever that may answer over rows, the columns in the
     // ordinals that are given are what the whole query may answer
@@ -191,16 +213,10 @@ impl Narrowed {
         ensures ok { IfOk result (λ n. n ≡ query) }
         ensures err { IfErr result (λ e. e ≡ Refusal.OutOfMemory) }
     {
-        match different(alloc, query.items.as_slice())? {
-            None => Ok(Narrowed { query, whole: None }),
-            Some((items, ordinals)) => {
-                let (query, whole) = showing(query, items, ordinals);
-                Ok(Narrowed {
-                    query,
-                    whole: Some(whole),
-                })
-            }
+        if are_few_apart(query.items.as_slice()) {
+            return Ok(Narrowed { query, whole: None });
         }
+        narrow(alloc, query)
     }
 
     /// The query that is run.

@@ -89,15 +89,14 @@ fn show_front<'a, S: RowSource<'a>>(
     condition: &Filter,
     rows: S,
     most: usize,
-    ordinals: &[usize],
 ) -> Result<Items<Row>, Refusal>
     requires { IsWithin most query.now.limit }
-    ensures ok { IfOk result (IsSortedSlice query.now.order_by query.now.limit ordinals.now (filter (is_kept condition.now) (S.to_come rows))) }
+    ensures ok { IfOk result (IsSortedSlice query.now.order_by query.now.limit (map shown_ordinal query.now.items) (filter (is_kept condition.now) (S.to_come rows))) }
     ensures err { IfErr result (λ e. e ≡ Refusal.OutOfMemory) }
 {
     let rows = ordered_front(alloc, condition, rows, query.order_by.as_slice(), most)?;
     let all = Filter::plain(&None);
-    shown(alloc, &all, rows, query.limit, ordinals)
+    shown(alloc, &all, rows, query.limit, query.items.as_slice())
 }
 
 // What is shown of the rows.
@@ -106,14 +105,13 @@ fn show_ordered<'a, S: RowSource<'a>>(
     query: &Query,
     condition: &Filter,
     rows: S,
-    ordinals: &[usize],
 ) -> Result<Items<Row>, Refusal>
-    ensures ok { IfOk result (IsSortedSlice query.now.order_by query.now.limit ordinals.now (filter (is_kept condition.now) (S.to_come rows))) }
+    ensures ok { IfOk result (IsSortedSlice query.now.order_by query.now.limit (map shown_ordinal query.now.items) (filter (is_kept condition.now) (S.to_come rows))) }
     ensures err { IfErr result (λ e. e ≡ Refusal.OutOfMemory) }
 {
     let rows = ordered(alloc, condition, rows, query.order_by.as_slice())?;
     let all = Filter::plain(&None);
-    shown(alloc, &all, rows, query.limit, ordinals)
+    shown(alloc, &all, rows, query.limit, query.items.as_slice())
 }
 
 // What a query without aggregates gives. Only what goes out is copied.
@@ -125,15 +123,13 @@ fn select_rows<'a, S: RowSource<'a>>(
     ensures ok { IfOk result (IsSortedSlice query.now.order_by query.now.limit (map shown_ordinal query.now.items) (filter (is_kept query.now.filter) (S.to_come rows))) }
     ensures err { IfErr result (λ e. e ≡ Refusal.OutOfMemory) }
 {
-    let ordinals = shown_ordinals(alloc, query.items.as_slice())?;
-    let ordinals = ordinals.as_slice();
     let filter = Filter::of(alloc, &query.filter)?;
     if query.order_by.as_slice().is_empty() {
-        return shown(alloc, &filter, rows, query.limit, ordinals);
+        return shown(alloc, &filter, rows, query.limit, query.items.as_slice());
     }
     match front_of(query.limit) {
-        Some(most) => show_front(alloc, query, &filter, rows, most, ordinals),
-        None => show_ordered(alloc, query, &filter, rows, ordinals),
+        Some(most) => show_front(alloc, query, &filter, rows, most),
+        None => show_ordered(alloc, query, &filter, rows),
     }
 }
 

@@ -3,11 +3,12 @@ ghost use Rattle.std.specs.Prelude.{◌≡◌, List, [], ◌∷◌, MatchOption,
 ghost use Rattle.vt_value.specs.declared.value.Value.{Value};
 ghost use Rattle.operators.specs.Slices.{columns_of, sliced};
 ghost use Rattle.sql_eval.specs.Conditions.{is_kept};
+ghost use Rattle.sql_eval.specs.Grouping.{shown_ordinal};
 
 use crate::conditions::keeps;
 use crate::filters::Filter;
-use operators::project_row;
-use sql_tree::{Condition, LimitClause};
+use crate::shown_rows::shown_row;
+use sql_tree::{Condition, Item, LimitClause};
 use std::alloc::Global;
 use std::marker::Model;
 use vt_value::{Items, Refusal, Row, copy_row};
@@ -146,15 +147,15 @@ fn pass_over<'a, S: RowSource<'a>>(condition: &Filter, rows: &mut S, count: u64)
     }
 }
 
-// Of the first rows whose condition is true, at most so many, the columns at these ordinals. No row after the last of them is asked for.
+// Of the first rows whose condition is true, at most so many, the columns that the items show. No row after the last of them is asked for.
 fn first_shown<'a, S: RowSource<'a>>(
     alloc: Global,
     condition: &Filter,
     rows: &mut S,
-    ordinals: &[usize],
+    items: &[Item<usize>],
     count: u64,
 ) -> Result<Items<Row>, Refusal>
-    ensures ok { IfOk result (λ list. list ≡ map (columns_of ordinals.now) (take count (filter (is_kept condition.now) (S.to_come rows.old)))) }
+    ensures ok { IfOk result (λ list. list ≡ map (columns_of (map shown_ordinal items.now)) (take count (filter (is_kept condition.now) (S.to_come rows.old)))) }
     ensures rest { OnOk result (filter (is_kept condition.now) (S.to_come rows.new) ≡ drop count (filter (is_kept condition.now) (S.to_come rows.old))) }
     ensures err { IfErr result (λ e. e ≡ Refusal.OutOfMemory) }
 {
@@ -163,46 +164,46 @@ fn first_shown<'a, S: RowSource<'a>>(
         let Some(row) = next_passing(condition, rows) else {
             break;
         };
-        list.push(project_row(alloc, ordinals, row)?)?;
+        list.push(shown_row(alloc, items, row)?)?;
     }
     Ok(list)
 }
 
-// Of each row whose condition is true the columns at these ordinals.
+// Of each row whose condition is true the columns that the items show.
 fn all_shown<'a, S: RowSource<'a>>(
     alloc: Global,
     condition: &Filter,
     rows: &mut S,
-    ordinals: &[usize],
+    items: &[Item<usize>],
 ) -> Result<Items<Row>, Refusal>
-    ensures ok { IfOk result (λ list. list ≡ map (columns_of ordinals.now) (filter (is_kept condition.now) (S.to_come rows.old))) }
+    ensures ok { IfOk result (λ list. list ≡ map (columns_of (map shown_ordinal items.now)) (filter (is_kept condition.now) (S.to_come rows.old))) }
     ensures err { IfErr result (λ e. e ≡ Refusal.OutOfMemory) }
 {
     let mut list = Items::new(alloc);
     while let Some(row) = next_passing(condition, rows) {
-        list.push(project_row(alloc, ordinals, row)?)?;
+        list.push(shown_row(alloc, items, row)?)?;
     }
     Ok(list)
 }
 
-/// Of the rows whose condition is true those that `limit` leaves, each by the columns at these ordinals. No other row is copied, and none
+/// Of the rows whose condition is true those that `limit` leaves, each by the columns that the items show. No other row is copied, and none
 /// after the last of them is asked for. Refuses only for want of memory.
 pub fn shown<'a, S: RowSource<'a>>(
     alloc: Global,
     condition: &Filter,
     rows: S,
     limit: Option<LimitClause>,
-    ordinals: &[usize],
+    items: &[Item<usize>],
 ) -> Result<Items<Row>, Refusal>
-    ensures ok { IfOk result (λ list. list ≡ map (columns_of ordinals.now) (sliced limit (filter (is_kept condition.now) (S.to_come rows)))) }
+    ensures ok { IfOk result (λ list. list ≡ map (columns_of (map shown_ordinal items.now)) (sliced limit (filter (is_kept condition.now) (S.to_come rows)))) }
     ensures err { IfErr result (λ e. e ≡ Refusal.OutOfMemory) }
 {
     let mut rows = rows;
     match limit {
         Some(limit) => {
             pass_over(condition, &mut rows, limit.offset);
-            first_shown(alloc, condition, &mut rows, ordinals, limit.count)
+            first_shown(alloc, condition, &mut rows, items, limit.count)
         }
-        None => all_shown(alloc, condition, &mut rows, ordinals),
+        None => all_shown(alloc, condition, &mut rows, items),
     }
 }

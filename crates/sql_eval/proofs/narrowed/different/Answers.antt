@@ -1,9 +1,6 @@
 use Rattle.std.proofs.Common.{length, ap, sym, ◌∙◌}
-use Rattle.sql_eval.proofs.NarrowLemmas.{all_apart, as_many}
+use Rattle.sql_eval.proofs.NarrowLemmas.{as_many}
 use Rattle.sql_eval.proofs.narrowed.different.Goals as goal
-
-pub returns-then-are_apart-clause-all : goal.returns-then-are_apart-clause-all
-returns-then-are_apart-clause-all c = all_apart c.args.items.now (sym c.are_apart.ensures ∙ c.if-are_apart.true)
 
 pub returns-then-len-items-clause-all : goal.returns-then-len-items-clause-all
 returns-then-len-items-clause-all c =

@@ -1,10 +1,12 @@
 use Rattle.std.proofs.Common.{ℕ, List, map, ap, subst, ◌∙◌}
 use Rattle.std.specs.Prelude.{IsSorted, filter}
 use Rattle.std.proofs.lemmas.Result.{IfOk-weaker}
+use Rattle.sql_tree.specs.declared.Item.{Item}
 use Rattle.sql_tree.specs.declared.Key.{Key}
 use Rattle.operators.specs.Orders.{row_cmp}
 use Rattle.operators.specs.Slices.{sliced, columns_of}
 use Rattle.sql_eval.specs.Conditions.{is_kept}
+use Rattle.sql_eval.specs.Grouping.{shown_ordinal}
 use Rattle.sql_eval.proofs.LentRows.{no_condition}
 use Rattle.sql_eval.proofs.FrontRows.{sliced_front}
 use Rattle.sql_eval.proofs.queries.show_front.Goals as goal
@@ -19,8 +21,9 @@ returns-clause-ok g c =
       front.0,
       front.1,
       subst (λ (keys : List (Key ℕ)). IsSorted (row_cmp keys) front.0) c.as_slice.ensures front.2,
-      is ∙ ap (λ f. map (columns_of c.args.ordinals.now) (sliced limit (filter (is_kept f) rows))) c.plain-all.ensures
-          ∙ ap (λ l. map (columns_of c.args.ordinals.now) (sliced limit l)) (no_condition rows ∙ front.3)
-          ∙ ap (map (columns_of c.args.ordinals.now)) (sliced_front limit c.args.most front.0 c.requires),
+      is ∙ ap (λ (l : List (Item ℕ)). map (columns_of (map shown_ordinal l)) (sliced limit (filter (is_kept c.plain-all.result) rows))) c.as_slice-2.ensures
+          ∙ ap (λ f. map (columns_of (map shown_ordinal c.args.query.now.items)) (sliced limit (filter (is_kept f) rows))) c.plain-all.ensures
+          ∙ ap (λ l. map (columns_of (map shown_ordinal c.args.query.now.items)) (sliced limit l)) (no_condition rows ∙ front.3)
+          ∙ ap (map (columns_of (map shown_ordinal c.args.query.now.items))) (sliced_front limit c.args.most front.0 c.requires),
     ))
     c.shown.ensures.ok

@@ -1,7 +1,7 @@
 use Rattle.std.proofs.Common.{map, Some, ap, ◌∙◌}
 use Rattle.sql_eval.specs.Narrowing.{distinct_items}
 use Rattle.sql_eval.proofs.NarrowLemmas.{narrowing}
-use Rattle.sql_eval.proofs.narrowed.Narrowed.of.Goals as goal
+use Rattle.sql_eval.proofs.narrowed.narrow.Goals as goal
 
 pub invariant_of-result-in-Some : goal.invariant_of-result-in-Some
 invariant_of-result-in-Some c =
