@@ -1,5 +1,5 @@
 //! From a query to its plan.
-ghost use Rattle.std.specs.Prelude.{◌≡◌, ◌++◌, IfOk, IfErr, map, length};
+ghost use Rattle.std.specs.Prelude.{◌≡◌, ◌++◌, IfOk, IfErr, OnOk, map, length};
 ghost use Rattle.sql_tree.specs.declared.Item.TheVariants as item;
 ghost use Rattle.vschema.specs.Resolved.{ordinals_from};
 ghost use Rattle.planner.specs.Routes.{table_at, route_of};
@@ -25,49 +25,26 @@ fn pushed_limit(limit: LimitClause) -> LimitClause
     }
 }
 
-fn shown_with_keys(
-    items: Items<Item<usize>>,
-    keys: &[Key<usize>],
-) -> Result<Items<Item<usize>>, Refusal>
-    ensures ok { IfOk result (λ shown. shown ≡ items ++ map key_item keys.now) }
+fn push_keys(items: &mut Items<Item<usize>>, keys: &[Key<usize>]) -> Result<(), Refusal>
+    ensures ok { OnOk result (items.new ≡ items.old ++ map key_item keys.now) }
     ensures err { IfErr result (λ e. e ≡ Refusal.OutOfMemory) }
 {
-    let mut shown = items;
     for key in keys {
-        shown.push(Item::Column(key.column))?;
+        items.push(Item::Column(key.column))?;
     }
-    Ok(shown)
+    Ok(())
 }
 
-fn pushed_rows(query: Query) -> Result<Query, Refusal>
-    ensures ok { IfOk result (λ piece. piece ≡ pushed_rows query) }
+// Makes a query that isn't aggregated what each shard gets.
+fn push_rows(query: &mut Query) -> Result<(), Refusal>
+    ensures ok { OnOk result (query.new ≡ pushed_rows query.old) }
     ensures err { IfErr result (λ e. e ≡ Refusal.OutOfMemory) }
 {
-    let Query {
-        table,
-        join,
-        items,
-        qualified,
-        filter,
-        group_by,
-        order_by,
-        limit,
-    } = query;
-    let items = shown_with_keys(items, order_by.as_slice())?;
-    let limit = match limit {
-        Some(limit) => Some(pushed_limit(limit)),
-        None => None,
-    };
-    Ok(Query {
-        table,
-        join,
-        items,
-        qualified,
-        filter,
-        group_by,
-        order_by,
-        limit,
-    })
+    push_keys(&mut query.items, query.order_by.as_slice())?;
+    if let Some(limit) = query.limit {
+        query.limit = Some(pushed_limit(limit));
+    }
+    Ok(())
 }
 
 fn column_items(alloc: Global, columns: &[usize]) -> Result<Items<Item<usize>>, Refusal>
@@ -107,39 +84,26 @@ fn pushed_items(alloc: Global, query: &Query) -> Result<Items<Item<usize>>, Refu
     group_items(alloc, columns, aggregates.as_slice())
 }
 
-fn pushed_groups(alloc: Global, query: Query) -> Result<Query, Refusal>
-    ensures ok { IfOk result (λ piece. piece ≡ pushed_groups query) }
+// Makes an aggregated query what each shard gets.
+fn push_groups(alloc: Global, query: &mut Query) -> Result<(), Refusal>
+    ensures ok { OnOk result (query.new ≡ pushed_groups query.old) }
     ensures err { IfErr result (λ e. e ≡ Refusal.OutOfMemory) }
 {
-    let items = pushed_items(alloc, &query)?;
-    let Query {
-        table,
-        join,
-        qualified,
-        filter,
-        group_by,
-        ..
-    } = query;
-    Ok(Query {
-        table,
-        join,
-        items,
-        qualified,
-        filter,
-        group_by,
-        order_by: Items::new(alloc),
-        limit: None,
-    })
+    query.items = pushed_items(alloc, query)?;
+    query.order_by = Items::new(alloc);
+    query.limit = None;
+    Ok(())
 }
 
-fn pushed(alloc: Global, query: Query) -> Result<Query, Refusal>
-    ensures ok { IfOk result (λ piece. piece ≡ pushed query) }
+// Makes a query what each shard gets.
+fn push(alloc: Global, query: &mut Query) -> Result<(), Refusal>
+    ensures ok { OnOk result (query.new ≡ pushed query.old) }
     ensures err { IfErr result (λ e. e ≡ Refusal.OutOfMemory) }
 {
     if query.is_aggregated() {
-        pushed_groups(alloc, query)
+        push_groups(alloc, query)
     } else {
-        pushed_rows(query)
+        push_rows(query)
     }
 }
 
@@ -225,45 +189,6 @@ pub fn query_route(alloc: Global, schema: &VSchema, query: &Query) -> Result<Rou
     }
 }
 
-fn route_and_finish(
-    alloc: Global,
-    schema: &VSchema,
-    query: &Query,
-) -> Result<(Route, Finish), Refusal>
-    ensures route { IfOk result (λ r. r.0 ≡ route_of (table_at schema.now query.now.table) query.now.join query.now.filter) }
-    ensures finish { IfOk result (λ r. r.1 ≡ finish_of query.now) }
-    ensures err { IfErr result (λ e. e ≡ Refusal.OutOfMemory) }
-{
-    let route = query_route(alloc, schema, query)?;
-    let finish = finish_of(alloc, query)?;
-    Ok((route, finish))
-}
-
-// What the answer shows.
-fn shown(alloc: Global, query: &Query) -> Result<(Items<Item<usize>>, Items<bool>), Refusal>
-    ensures items { IfOk result (λ r. r.0 ≡ query.now.items) }
-    ensures qualified { IfOk result (λ r. r.1 ≡ query.now.qualified) }
-    ensures err { IfErr result (λ e. e ≡ Refusal.OutOfMemory) }
-{
-    let items = copy_items(alloc, query.items.as_slice())?;
-    let qualified = Items::from_slice(alloc, query.qualified.as_slice())?;
-    Ok((items, qualified))
-}
-
-fn shown_and_pushed(
-    alloc: Global,
-    query: Query,
-) -> Result<((Items<Item<usize>>, Items<bool>), Query), Refusal>
-    ensures items { IfOk result (λ r. r.0.0 ≡ query.items) }
-    ensures qualified { IfOk result (λ r. r.0.1 ≡ query.qualified) }
-    ensures piece { IfOk result (λ r. r.1 ≡ pushed query) }
-    ensures err { IfErr result (λ e. e ≡ Refusal.OutOfMemory) }
-{
-    let items = shown(alloc, &query)?;
-    let piece = pushed(alloc, query)?;
-    Ok((items, piece))
-}
-
 // Promise: A plan is the written one, and right: over any shards whose rows lie in their ranges, each list that its finish may give of the
 // pieces' answers is an answer over all rows, also over no shard and with aggregates, and of a join over all pairs, if no id lies in two
 // of the ranges; a shard that its route skips holds no row or pair that the query keeps; and without aggregates each piece's answer is in
@@ -276,9 +201,12 @@ pub fn plan(alloc: Global, schema: &VSchema, query: Query) -> Result<Plan, Refus
     ensures order { IfOk result (GivesInOrder (table_at schema.now query.table)) }
     ensures err { IfErr result (λ e. e ≡ Refusal.OutOfMemory) }
 {
-    let (route, finish) = route_and_finish(alloc, schema, &query)?;
-    let (shown, piece) = shown_and_pushed(alloc, query)?;
-    let (items, qualified) = shown;
+    let route = query_route(alloc, schema, &query)?;
+    let finish = finish_of(alloc, &query)?;
+    let items = copy_items(alloc, query.items.as_slice())?;
+    let qualified = Items::from_slice(alloc, query.qualified.as_slice())?;
+    let mut piece = query;
+    push(alloc, &mut piece)?;
     Ok(Plan {
         route,
         piece,
