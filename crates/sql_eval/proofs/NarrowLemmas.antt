@@ -1,5 +1,5 @@
 -- Each item once: what the loop that finds them keeps, and that rows with each item once are shown as those of the whole query.
-use Rattle.std.proofs.Common.{◌≡◌, ℕ, zero, suc, ◌+◌, ◌*◌, ◌<◌, ◌≤◌, ◌==◌, Bool, true, false, not, cond, ◌||◌, ◌&&◌, List, [], ◌∷◌, ◌++◌, length, map, filter, slice_get, Some, None, refl, sym, ap, subst, ◌∙◌, arith, eqb-true, eq-eqb, nat_cmp, is_eq}
+use Rattle.std.proofs.Common.{Option, ◌≡◌, ℕ, zero, suc, ◌+◌, ◌*◌, ◌<◌, ◌≤◌, ◌==◌, Bool, true, false, not, cond, ◌||◌, ◌&&◌, List, [], ◌∷◌, ◌++◌, length, map, filter, slice_get, Some, None, refl, sym, ap, subst, ◌∙◌, arith, eqb-true, eq-eqb, nat_cmp, is_eq}
 use Rattle.std.specs.Prelude.{IsPermutation, IsSorted}
 use Rattle.std.specs.List.{list_any}
 use Rattle.std.specs.BTreeMap.{BTreeMap, get}
@@ -19,8 +19,8 @@ use Rattle.vschema.specs.Checks.{is_aggregate, is_aggregated}
 use Rattle.sql_eval.specs.Conditions.{is_kept}
 use Rattle.sql_eval.specs.Groups.{group_values, group_rows, item_value}
 use Rattle.sql_eval.specs.Queries.{Keyed, shown_value, keyed_row, keyed_group, kept_rows, IsAnswer}
-use Rattle.sql_eval.specs.Narrowing.{item_code, same_item, distinct_items, narrowed, ShowsAt}
-use Rattle.sql_eval.specs.inner.Narrowings.{has_item, are_apart, IsSeen, IsNarrowing}
+use Rattle.sql_eval.specs.Narrowing.{item_code, same_item, distinct_items, narrowed, whole_items, whole_ordinals, ShowsAt}
+use Rattle.sql_eval.specs.inner.Narrowings.{has_item, are_apart, IsSeen, whole_query, IsNarrowing}
 use Rattle.sql_eval.specs.declared.narrowed.Whole.{Whole}
 use Rattle.sql_eval.specs.declared.narrowed.Seen.{Seen}
 use Rattle.sql_eval.proofs.AnswerLemmas.{sliced_map, kept_plain, kept_grouped}
@@ -338,13 +338,10 @@ module _ (q : Query) (ordinals : List ℕ) (at : map (slice_get (distinct_items 
 pub shown_as_it_is : (q : Query) → distinct_items q.items ≡ q.items → ShowsAt q None
 shown_as_it_is q same = record { answers = λ rows list answer. subst (λ items. IsAnswer (record q { items = items }) rows list) same answer }
 
-pub narrowing : (q narrow : Query) (items : List (Item ℕ)) (w : Whole) → narrow ≡ record q { items = items } → w.items ≡ q.items → items ≡ distinct_items q.items
-    → map (slice_get items) w.ordinals ≡ map Some q.items → IsNarrowing narrow (Some w)
-narrowing q narrow items w narrow_is whole distinct at =
-    let same : record narrow { items = w.items } ≡ q = ap (λ (n : Query). record n { items = w.items }) narrow_is ∙ ap (λ l. record q { items = l }) whole in
+pub narrowing : (q narrow : Query) (w : Option Whole) → narrow ≡ narrowed q → whole_items w narrow.items ≡ q.items → ShowsAt q (whole_ordinals w) → IsNarrowing narrow w
+narrowing q narrow w narrow_is whole shows =
+    let same : whole_query narrow w ≡ q = ap (λ (n : Query). record n { items = whole_items w narrow.items }) narrow_is ∙ ap (λ l. record q { items = l }) whole in
     record {
-      narrow = narrow_is ∙ ap (λ l. record q { items = l }) distinct ∙ ap narrowed (sym same);
-      shows =
-          subst (λ (v : Query). ShowsAt v (Some w.ordinals)) (sym same)
-          (shown_whole q w.ordinals (ap (λ l. map (slice_get l) w.ordinals) (sym distinct) ∙ at));
+      narrow = narrow_is ∙ ap narrowed (sym same);
+      shows = subst (λ (v : Query). ShowsAt v (whole_ordinals w)) (sym same) shows;
     }

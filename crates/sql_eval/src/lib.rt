@@ -19,7 +19,7 @@ pub use conditions::{Seen, keeps, truth};
 pub use duplicates::{has_key_among, in_key_order};
 pub use groups::{Grouping, copy_item, group_columns, group_order};
 pub use joins::{PairSource, SlicePairs, copy_seen, is_pair, select_pairs};
-pub use narrowed::{Narrowed, Whole};
+pub use narrowed::{Narrowed, Whole, narrow};
 pub use queries::{select_from, select_local, show};
 pub use rows::same_row;
 pub use source::{RowSource, SliceRows, all_kept, next_kept};

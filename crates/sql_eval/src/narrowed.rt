@@ -10,6 +10,7 @@ use sql_tree::Item;
 use std::alloc::Global;
 use std::collections::BTreeMap;
 use std::marker::Model;
+use std::mem::replace;
 use vschema::Query;
 use vt_value::{Items, Refusal};
 
@@ -133,37 +134,23 @@ fn different(
     Ok(Some((items, ordinals)))
 }
 
-/// A query with these items in place of its own, and what it stands for with its own.
-fn showing(query: Query, items: Items<Item<usize>>, ordinals: Items<usize>) -> (Query, Whole)
-    ensures query { result.0 ≡ record query { items = items } }
-    ensures items { result.1.items ≡ query.items }
-    ensures ordinals { result.1.ordinals ≡ ordinals }
+/// Has a query show each of its items once, and gives what it stands for, if it showed some again. Refuses only for want of memory.
+pub fn narrow(alloc: Global, query: &mut Query) -> Result<Option<Whole>, Refusal>
+    ensures query { OnOk result (query.new ≡ narrowed query.old) }
+    ensures items { IfOk result (λ whole. whole_items whole query.new.items ≡ query.old.items) }
+    ensures shows { IfOk result (λ whole. ShowsAt query.old (whole_ordinals whole)) }
+    ensures err { IfErr result (λ e. e ≡ Refusal.OutOfMemory) }
 {
-    let Query {
-        table,
-        join,
-        items: whole,
-        qualified,
-        filter,
-        group_by,
-        order_by,
-        limit,
-    } = query;
-    let narrow = Query {
-        table,
-        join,
-        items,
-        qualified,
-        filter,
-        group_by,
-        order_by,
-        limit,
-    };
-    let whole = Whole {
-        items: whole,
-        ordinals,
-    };
-    (narrow, whole)
+    if are_few_apart(query.items.as_slice()) {
+        return Ok(None);
+    }
+    match different(alloc, query.items.as_slice())? {
+        None => Ok(None),
+        Some((items, ordinals)) => {
+            let items = replace(&mut query.items, items);
+            Ok(Some(Whole { items, ordinals }))
+        }
+    }
 }
 
 /// A query that is run with each of its items once. Contracts see the query that it stands for.
@@ -187,36 +174,18 @@ impl Model for Narrowed {
     ghost invariant = { λ n. IsNarrowing n.query n.whole };
 }
 
-// The query that shows each item of this one once.
-fn narrow(alloc: Global, query: Query) -> Result<Narrowed, Refusal>
-    ensures ok { IfOk result (λ n. n ≡ query) }
-    ensures err { IfErr result (λ e. e ≡ Refusal.OutOfMemory) }
-{
-    match different(alloc, query.items.as_slice())? {
-        None => Ok(Narrowed { query, whole: None }),
-        Some((items, ordinals)) => {
-            let (query, whole) = showing(query, items, ordinals);
-            Ok(Narrowed {
-                query,
-                whole: Some(whole),
-            })
-        }
-    }
-}
-
 impl Narrowed {
     // Promise: A query that shows items again and again is run with each of them once: of whatever that may answer over rows, the columns in the
     // ordinals that are given are what the whole query may answer
-    // With: Narrowed::query, Narrowed::ordinals, Narrowed::split, Narrowed::shown
+    // With: narrow, Narrowed::query, Narrowed::ordinals, Narrowed::split, Narrowed::shown
     /// The query that shows each item of this one once. Refuses only for want of memory.
     pub fn of(alloc: Global, query: Query) -> Result<Narrowed, Refusal>
         ensures ok { IfOk result (λ n. n ≡ query) }
         ensures err { IfErr result (λ e. e ≡ Refusal.OutOfMemory) }
     {
-        if are_few_apart(query.items.as_slice()) {
-            return Ok(Narrowed { query, whole: None });
-        }
-        narrow(alloc, query)
+        let mut query = query;
+        let whole = narrow(alloc, &mut query)?;
+        Ok(Narrowed { query, whole })
     }
 
     /// The query that is run.
