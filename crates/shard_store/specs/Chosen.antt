@@ -1,5 +1,5 @@
 -- The rows that a condition chooses to be looked at.
-use Rattle.std.specs.Prelude.{◌≡◌, Bool, false, List, [], ◌∷◌, ◌++◌, ⊤, filter}
+use Rattle.std.specs.Prelude.{◌≡◌, Bool, false, List, [], ◌∷◌, ◌++◌, ⊤, filter, option_to_list, option_copied}
 use Rattle.std.specs.List.{list_any}
 use Rattle.std.specs.Ordering.{is_eq, is_lt}
 use Rattle.vt_value.specs.declared.value.Value.{Value}
@@ -9,6 +9,7 @@ use Rattle.shard_store.specs.declared.equalities.Fixed.TheVariants.{One, Among a
 use Rattle.shard_store.specs.declared.walk.ChosenSlots.{ChosenSlots}
 use Rattle.shard_store.specs.declared.walk.ChosenSlots.TheVariants.{All, With, Among}
 use Rattle.shard_store.specs.declared.walk.ChosenRows.{ChosenRows}
+use Rattle.shard_store.specs.declared.walk.RowsAt.{RowsAt}
 use Rattle.shard_store.specs.Slots.{Slot, begins}
 
 -- a value is one of these
@@ -38,3 +39,7 @@ slots_chosen (Among rows) = rows
 -- and those outside them
 abbrev pub rows_chosen : ChosenRows → List Row
 rows_chosen rows = slots_chosen rows.slots ++ rows.unslotted
+
+-- those of one key: the one in its slot, and those outside slots
+abbrev pub rows_at : RowsAt → List Row
+rows_at rows = option_to_list (option_copied rows.slotted) ++ rows.unslotted

@@ -1,6 +1,6 @@
 //! What queries give and what writes change, over the stored rows. If a condition fixes the first key column to values, the rows of these
 //! values alone are looked at, and an INSERT looks each of its keys up.
-ghost use Rattle.std.specs.Prelude.{◌≡◌, ◌⊎◌, ◌<◌, true, IsTrue, IfOk, IfErr, IfSome, MatchOption, Ok, Err, List, [], filter, length, slice_index};
+ghost use Rattle.std.specs.Prelude.{◌≡◌, ◌⊎◌, ◌<◌, true, IsTrue, IfOk, IfErr, IfSome, MatchOption, Ok, Err, List, [], filter, length, slice_index, option_to_list, option_copied};
 ghost use Rattle.std.specs.List.{list_any};
 ghost use Rattle.vt_value.specs.declared.value.Value.{Value as V};
 ghost use Rattle.vt_value.specs.Values.{value_at};
@@ -13,24 +13,25 @@ ghost use Rattle.sql_eval.specs.Groups.{CanBeSummed};
 ghost use Rattle.sql_eval.specs.Queries.{IsAnswer};
 ghost use Rattle.sql_eval.specs.Writes.{written_table, changes_over};
 ghost use Rattle.shard_store.specs.Slots.{rows_in};
-ghost use Rattle.shard_store.specs.Tables.{key_at};
+ghost use Rattle.shard_store.specs.Tables.{key_at, begins_with};
 ghost use Rattle.shard_store.specs.inner.Stores.{IsInsertOf};
-ghost use Rattle.shard_store.specs.Chosen.{fits, slots_chosen, rows_chosen};
+ghost use Rattle.shard_store.specs.Chosen.{fits, slots_chosen, rows_chosen, rows_at};
 ghost use Rattle.shard_store.specs.inner.Joined.{may_have};
 
 use crate::equalities::{Fixed, fixed_values};
 use crate::primary::are_key_ordinals;
 use crate::shared_row::SharedRows;
+use crate::slots::key_of_value;
 use crate::source::any_has_key;
 use crate::stored::StoredTables;
 use crate::table::StoredTable;
 use crate::table_rows::TableRows;
-use crate::walk::{AllRows, ChosenRows, ChosenSlots};
+use crate::walk::{AllRows, ChosenRows, ChosenSlots, RowsAt};
 use sql_eval::{all_kept, change_local, select_from, select_local};
 use sql_tree::Condition;
 use std::alloc::Global;
 use vschema::{Query, RowChange, Table, Write};
-use vt_value::{Items, Refusal, Row};
+use vt_value::{Items, Refusal, Row, Value};
 
 impl StoredTable {
     // Values of which the first key column has one in each row whose condition is true.
@@ -45,6 +46,33 @@ impl StoredTable {
             (Some(condition), Some(column)) => fixed_values(condition, *column),
             _ => None,
         }
+    }
+
+    // The value that a condition fixes the only key column to.
+    fn lone_value<'a>(&self, condition: &'a Option<Condition<usize>>) -> Option<&'a Value>
+        ensures some { IfSome result (λ v. length self.now.ordinals ≡ 1) }
+        ensures value { IfSome result (λ v. (row : List V) → is_kept condition.now row ≡ true → begins_with self.now.ordinals v.now row ≡ true) }
+    {
+        let [column] = self.key_columns() else {
+            return None;
+        };
+        let Some(condition) = condition else {
+            return None;
+        };
+        match fixed_values(condition, *column) {
+            Some(Fixed::One(value)) => Some(value),
+            _ => None,
+        }
+    }
+
+    // The row in a slot whose only key column has a value.
+    fn row_with(&self, alloc: Global, value: &Value) -> Result<Option<&Row>, Refusal>
+        requires { length self.now.ordinals ≡ 1 }
+        ensures ok { IfOk result (λ row. option_to_list (option_copied row) ≡ filter (begins_with self.now.ordinals value.now) (rows_in self.now.slots)) }
+        ensures err { IfErr result (λ e. e ≡ Refusal.OutOfMemory) }
+    {
+        let key = key_of_value(alloc, value)?;
+        Ok(self.get(&key))
     }
 
     // The rows in slots whose first key column has one of the values.
@@ -112,6 +140,25 @@ impl TableRows {
         })
     }
 
+    // Rows among which are all whose condition is true, where it fixes the only key column to a value.
+    fn at(
+        &self,
+        alloc: Global,
+        condition: &Option<Condition<usize>>,
+    ) -> Result<Option<RowsAt<'_>>, Refusal>
+        ensures ok { IfOk result (λ found. IfSome found (λ rows. filter (is_kept condition.now) (rows_at rows) ≡ filter (is_kept condition.now) self.now.rows)) }
+        ensures err { IfErr result (λ e. e ≡ Refusal.OutOfMemory) }
+    {
+        let Some(value) = self.stored.lone_value(condition) else {
+            return Ok(None);
+        };
+        let slotted = self.stored.row_with(alloc, value)?;
+        Ok(Some(RowsAt {
+            slotted,
+            unslotted: SharedRows::new(self.unslotted.as_slice()),
+        }))
+    }
+
     // Copies of the rows whose condition is true.
     fn kept(
         &self,
@@ -121,6 +168,9 @@ impl TableRows {
         ensures ok { IfOk result (λ list. list ≡ filter (is_kept condition.now) self.now.rows) }
         ensures err { IfErr result (λ e. e ≡ Refusal.OutOfMemory) }
     {
+        if let Some(found) = self.at(alloc, condition)? {
+            return all_kept(alloc, condition, found);
+        }
         let rows = self.chosen(alloc, condition)?;
         all_kept(alloc, condition, rows)
     }
@@ -131,6 +181,9 @@ impl TableRows {
         ensures ok { IfOk result (IsAnswer query.now self.now.rows) }
         ensures err { IfErr result (λ e. e ≡ Refusal.OutOfMemory) }
     {
+        if let Some(found) = self.at(alloc, &query.filter)? {
+            return select_from(alloc, query, found);
+        }
         let rows = self.chosen(alloc, &query.filter)?;
         select_from(alloc, query, rows)
     }
