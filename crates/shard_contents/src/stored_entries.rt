@@ -1,6 +1,6 @@
 //! The entries that a shard has stored: how many, and what they changed, from the time on when somebody follows the shard. Of each table they
 //! tell how many there were when it was last changed, so a transaction's conflicts are found without the entries.
-ghost use Rattle.std.specs.Prelude.{◌≡◌, ◌==◌, ◌-◌, ◌+◌, ◌<◌, ◌≤◌, ◌^◌, true, ℕ, if◌then◌else◌, IfErr, IfSome, OnOk, Some, slice_get, vec_len, vec_capacity};
+ghost use Rattle.std.specs.Prelude.{◌≡◌, ◌==◌, ◌-◌, ◌+◌, ◌<◌, ◌≤◌, ◌^◌, ◌⊎◌, true, ℕ, if◌then◌else◌, IfErr, MatchOption, OnOk, Some, slice_get, vec_len, vec_capacity};
 ghost use Rattle.std.specs.List.{AllByRecursion};
 ghost use Rattle.vschema.specs.Database.{changed_table};
 ghost use Rattle.shard_contents.specs.inner.KeptConflicts.{keeps_table};
@@ -155,7 +155,9 @@ impl StoredEntries {
 
     /// The entry at a position, counted from 0, if it is kept.
     pub fn get(&self, at: usize) -> Option<&KeptEntry>
-        ensures { IfSome result (λ e. (self.now.log.first ≤ at) × (slice_get self.now.log.kept (at - self.now.log.first) ≡ Some e.now)) }
+        ensures { MatchOption result
+            ((at < self.now.log.first) ⊎ (count_of self.now.log ≤ at))
+            (λ e. (self.now.log.first ≤ at) × (slice_get self.now.log.kept (at - self.now.log.first) ≡ Some e.now)) }
     {
         if at < self.first {
             return None;
