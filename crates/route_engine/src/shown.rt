@@ -7,6 +7,8 @@ use operators::ShownRows;
 use planner::Plan;
 use sql_eval::Whole;
 use sql_tree::Item;
+use std::alloc::Global;
+use std::mem::replace;
 use vt_value::{Items, Row};
 
 // The items of the whole query, and its rows as they are shown.
@@ -27,15 +29,12 @@ pub(crate) fn shown_whole(
     }
 }
 
-// What the answer shows, and whether each item was written with its table's name.
-pub(crate) fn shown_by(plan: Plan) -> (Items<Item<usize>>, Items<bool>)
-    ensures items { result.0 ≡ plan.items }
-    ensures qualified { result.1 ≡ plan.qualified }
+// What the answer shows, and whether each item was written with its table's name: taken out of the plan, which isn't moved for that.
+pub(crate) fn shown_by(alloc: Global, plan: &mut Plan) -> (Items<Item<usize>>, Items<bool>)
+    ensures items { result.0 ≡ plan.old.items }
+    ensures qualified { result.1 ≡ plan.old.qualified }
 {
-    let Plan {
-        items,
-        qualified,
-        ..
-    } = plan;
+    let items = replace(&mut plan.items, Items::new(alloc));
+    let qualified = replace(&mut plan.qualified, Items::new(alloc));
     (items, qualified)
 }
