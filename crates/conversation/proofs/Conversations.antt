@@ -34,7 +34,7 @@ use Rattle.conversation.specs.Packets.{refusal_bytes, reply_number}
 use Rattle.conversation.specs.Talk.{SessionContext, Greets, AnswersPayload, Replies, Conversation, Talk, IsByCommand, IsByInput, status_flags}
 use Rattle.conversation.specs.Talk as t
 use Rattle.conversation.specs.Sessions.{SessionState, HasTalked, HasTalkedOn, AnswersFed}
-use Rattle.conversation.specs.inner.Sessions.{FedBy}
+use Rattle.conversation.specs.inner.Sessions.{FedBy, command_payload, one_command}
 use Rattle.conversation.specs.Sessions as s
 use Rattle.conversation.proofs.RepliesLemmas.{go_on, talk_on, not_new, one_reply, stay_ended}
 
@@ -246,6 +246,42 @@ module _ {S : Type 0} (context : SessionContext S) (May : S → List ℕ → Out
         q.0 ++ cut.0,
         Appends-trans a b c q.0 cut.0 q.1 cut.2,
         lead_so Old Now (λ s now. Conversation context May begin s fed.payloads q.0 (At next) now) (λ s now. IsCutOff context May begin s fed (q.0 ++ cut.0) now) so q.2,
+      )
+
+-- a payload that begins at 0
+pub command_is : (p : Payload) (bytes : List ℕ) → p.first ≡ 0 → bytes ≡ p.bytes → command_payload p.last bytes ≡ p
+command_is p bytes first is =
+    ap (command_payload p.last) is ∙ ap (λ (n : ℕ). let q : Payload = record { first = n; last = p.last; bytes = p.bytes } in q) (sym first)
+
+-- the reply to the one packet of a command, and where the sink failed at it
+module _ {S : Type 0} (context : SessionContext S) (May : S → List ℕ → Outcome → S → Type 0) (at : Phase) (Old Now : S → Type 0) (bytes out : List ℕ) (connection_state : ConnectionState)
+    (leads : Lead Old Now (λ s now. AnswersPayload context May at s (command_payload 0 bytes) out connection_state now)) where
+  one_answers : (s now : S) → AnswersPayload context May at s (command_payload 0 bytes) out connection_state now
+      → AnswersFed context May (At at) s (one_command bytes) out connection_state now
+  one_answers s now a =
+      answers_of context May (At at) Old Now at (command_payload 0 bytes ∷ []) [] out connection_state s now t.goes_on
+      (one_reply context May at s now (command_payload 0 bytes) out connection_state a)
+
+  pub one_answered : Lead Old Now (λ s now. AnswersFed context May (At at) s (one_command bytes) out connection_state now)
+  one_answered =
+      lead_so Old Now (λ s now. AnswersPayload context May at s (command_payload 0 bytes) out connection_state now)
+      (λ s now. AnswersFed context May (At at) s (one_command bytes) out connection_state now) one_answers leads
+
+  pub one_cut : (a b : Known) → AppendsFront a b out → Written a b (λ written. Lead Old Now (λ s now. IsCutOff context May (At at) s (one_command bytes) written now))
+  one_cut a b cut =
+      let so : (s now : S) → AnswersPayload context May at s (command_payload 0 bytes) out connection_state now → IsCutOff context May (At at) s (one_command bytes) cut.0 now =
+      λ s now h. record {
+        part = one_command bytes;
+        told = out;
+        connection_state = connection_state;
+        front = f.all;
+        answers = one_answers s now h;
+        taken = cut.1;
+      } in (
+        cut.0,
+        cut.2,
+        lead_so Old Now (λ s now. AnswersPayload context May at s (command_payload 0 bytes) out connection_state now)
+            (λ s now. IsCutOff context May (At at) s (one_command bytes) cut.0 now) so leads,
       )
 
 -- the sink failed at the greeting

@@ -1,5 +1,6 @@
 -- What a writer has taken, write by write.
 use Rattle.std.proofs.Common.{◌≡◌, ℕ, ◌+◌, ◌<◌, List, [], ◌∷◌, ◌++◌, length, get_or, take, drop, Option, Some, None, refl, sym, ap, subst, ◌∙◌, append_assoc}
+use Rattle.std.specs.Prelude.{Result, Ok, Err, OnOk, OnErr}
 use Rattle.std.specs.List.{concat}
 use Rattle.std.proofs.lemmas.List.{append-nil, take-append-drop, take_more}
 use Rattle.std.proofs.lemmas.List.Folds.{concat-append}
@@ -44,6 +45,26 @@ pub none_kept : (a b : Known) (bytes : List ℕ) → Keeps a b → Appends a b (
 none_kept None b bytes p = tt
 none_kept (Some xs) None bytes p = absurd p
 none_kept (Some xs) (Some ys) bytes p = p ∙ sym (append-nil xs)
+
+-- ---- bytes that are written after others
+
+module _ {A E : Type 0} (a b c : Known) (xs ys : List ℕ) (before : Appends a b xs) where
+  pub both_written : (r : Result A E) → OnOk r (Appends b c ys) → OnOk r (Appends a c (xs ++ ys))
+  both_written (Ok x) more = Appends-trans a b c xs ys before more
+  both_written (Err e) more = tt
+
+  pub both_cut : (r : Result A E) → OnErr r (AppendsFront b c ys) → OnErr r (AppendsFront a c (xs ++ ys))
+  both_cut (Ok x) cut = tt
+  both_cut (Err e) cut = (
+    xs ++ cut.0,
+    (cut.1.0, append_assoc xs cut.0 cut.1.0 ∙ ap (λ (l : List ℕ). xs ++ l) cut.1.1),
+    Appends-trans a b c xs cut.0 before cut.2,
+  )
+
+-- a front of the first of two
+pub first_cut : (a b : Known) (xs ys : List ℕ) → AppendsFront a b xs → AppendsFront a b (xs ++ ys)
+first_cut a b xs ys cut =
+    (cut.0, (cut.1.0 ++ ys, sym (append_assoc cut.0 cut.1.0 ys) ∙ ap (λ (l : List ℕ). l ++ ys) cut.1.1), cut.2)
 
 -- ---- chunks that are written one after another
 

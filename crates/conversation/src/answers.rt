@@ -1,5 +1,5 @@
 //! Writes what a piece of the input is answered: the greeting, a reply for each payload, and the refusal of a fault.
-ghost use Rattle.std.specs.Prelude.{◌≡◌, ◌+◌, ◌≤◌, ℕ, List, [], None, length, IsSome, IfOk, OnOk, OnErr};
+ghost use Rattle.std.specs.Prelude.{◌≡◌, ◌+◌, ◌≤◌, ℕ, List, [], ◌++◌, None, length, IsSome, IfOk, OnOk, OnErr};
 ghost use Rattle.std.specs.Io.KnownBytes.{Appends};
 ghost use Rattle.std.specs.List.{concat};
 ghost use mathlib.Core.List.{IsPrefix};
@@ -18,12 +18,13 @@ ghost use Rattle.conversation.specs.ConnectionStates.{end_of};
 ghost use Rattle.conversation.specs.Talk.{AnswersPayload, Greets, Replies};
 ghost use Rattle.conversation.specs.Sessions.{AnswersFed};
 ghost use Rattle.conversation.specs.inner.Replies.{reply_bytes};
+ghost use Rattle.conversation.specs.inner.Sessions.{one_command};
 
 use crate::access::Handshake;
-use crate::connection_state::{ConnectionState, Phase};
+use crate::connection_state::{ConnectionState, Phase, Settings};
 use crate::devices::{DeviceFailed, Sink};
 use crate::end::End;
-use crate::reply::{REPLY_ROOM, put_refusal, put_reply};
+use crate::reply::{REPLY_ROOM, put_command, put_refusal, put_reply};
 use bytes::BytesMut;
 use journal::Naming;
 use mysql_handshake::put_greeting;
@@ -48,7 +49,17 @@ fn write_chunks<S: Sink>(chunks: &[Items<u8>], sink: &mut S) -> Result<(), Devic
     Ok(())
 }
 
-/// Writes a reply: its rows in their chunks, or what lies in the buffer.
+/// Writes the chunks, and the bytes after them.
+fn write_long<S: Sink>(chunks: &[Items<u8>], rest: &[u8], sink: &mut S) -> Result<(), DeviceFailed>
+    ensures bytes { OnOk result (Appends (S.taken sink.old) (S.taken sink.new) (concat chunks.now ++ rest.now)) }
+    ensures front { OnErr result (AppendsFront (S.taken sink.old) (S.taken sink.new) (concat chunks.now ++ rest.now)) }
+    ensures count { S.failures sink.new ≡ failures_after result (S.failures sink.old) }
+{
+    write_chunks(chunks, sink)?;
+    sink.write(rest)
+}
+
+/// Writes a reply: its full chunks, if it has rows, and what lies in the buffer.
 fn write_reply<S: Sink>(
     rows: Option<Chunks>,
     reply: &[u8],
@@ -60,7 +71,7 @@ fn write_reply<S: Sink>(
 {
     match rows {
         None => sink.write(reply),
-        Some(chunks) => write_chunks(chunks.as_slice(), sink),
+        Some(chunks) => write_long(chunks.as_slice(), reply, sink),
     }
 }
 
@@ -97,6 +108,44 @@ fn answer<W: World + Send + Sync, J: Naming + Send + Sync, G: Gate, S: Sink>(
     );
     match write_reply(rows, reply.as_slice(), sink) {
         Ok(()) => Ok(connection_state),
+        Err(failed) => Err(failed),
+    }
+}
+
+/// Writes what is written for a piece that is the one packet of a command, whose bytes are given, and returns the session's state after it.
+/// It is what `answer_fed` does of such a piece, without a copy of the bytes.
+pub fn answer_command<W: World + Send + Sync, J: Naming + Send + Sync, G: Gate, S: Sink>(
+    rt: &(impl Threads + Wait + Sync),
+    alloc: Global,
+    engine: &Engine<W, J, G>,
+    pass: &mut ShardPass<W, J>,
+    tx: &mut Tx<W, J>,
+    handshake: &Handshake,
+    settings: Settings,
+    command: &[u8],
+    reply: &mut BytesMut,
+    sink: &mut S,
+) -> Result<ConnectionState, DeviceFailed>
+    requires room { REPLY_ROOM ≤ length reply.old.items + reply.old.spare }
+    requires session { IsSome pass.old.session }
+    requires tx { IsOf W.opening tx.old pass.old }
+    ensures answers { IfOk result (λ connection_state. (out : List ℕ) × Appends (S.taken sink.old) (S.taken sink.new) out
+        × LeadsKept W.opening pass.old tx.old pass.new tx.new
+        (λ s now. AnswersFed (context_of W.opening handshake.now) (Means W.opening W.limits) (ConnectionState.At (Phase.Commands settings)) s (one_command command.now) out connection_state now)) }
+    ensures cut { OnErr result ((written : List ℕ) × Appends (S.taken sink.old) (S.taken sink.new) written
+        × LeadsKept W.opening pass.old tx.old pass.new tx.new
+        (λ s now. IsCutOff (context_of W.opening handshake.now) (Means W.opening W.limits) (ConnectionState.At (Phase.Commands settings)) s (one_command command.now) written now)) }
+    ensures count { S.failures sink.new ≡ failures_after result (S.failures sink.old) }
+    ensures room { REPLY_ROOM ≤ length reply.new.items + reply.new.spare }
+    ensures tx { IsOf W.opening tx.new pass.new }
+    ensures session { pass.new.session ≡ pass.old.session }
+{
+    reply.clear();
+    let (then, rows) = put_command(
+        rt, alloc, engine, pass, tx, handshake, settings, 0, command, reply,
+    );
+    match write_reply(rows, reply.as_slice(), sink) {
+        Ok(()) => Ok(then),
         Err(failed) => Err(failed),
     }
 }

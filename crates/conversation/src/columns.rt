@@ -1,8 +1,9 @@
 //! The definitions of a reply's columns: names, types and flags, of tables, joins and aggregates.
-ghost use Rattle.std.specs.Prelude.{◌≡◌, ◌==◌, IfOk, IfErr, Some, None, false, slice_index_or, if◌then◌else◌};
+ghost use Rattle.std.specs.Prelude.{◌≡◌, ◌==◌, ◌<◌, [], ◌∷◌, ◌++◌, vec_len, vec_capacity, IfOk, OnOk, IfErr, Some, None, false, slice_index_or, if◌then◌else◌};
 ghost use Rattle.std.specs.List.{list_any};
 ghost use Rattle.vschema.specs.Schema.{no_table};
 ghost use Rattle.sql_tree.specs.Printing.{item_text};
+ghost use Rattle.resultset.specs.declared.Column.{Column as Defined};
 ghost use Rattle.conversation.specs.Columns.{shown_kind, base_flags, flags_of, no_keyspace, no_column, column_at, Defines, DefinesAt, name_at, named_item, item_kind, item_flags, DefinesAggregate, owner_of, DefinesItem, AreColumns};
 
 use resultset::{Column as ResultColumn, ColumnText, Kind};
@@ -349,6 +350,35 @@ fn define_item<'e>(
     }
 }
 
+// Appends the definition of an item to a list that has room for it. That of a column isn't moved through a result.
+fn push_item<'e>(
+    alloc: Global,
+    schema: &'e VSchema,
+    table: usize,
+    join: Option<Join>,
+    qualified: bool,
+    item: &Item<usize>,
+    columns: &mut Vec<ResultColumn<'e>>,
+) -> Result<(), Refusal>
+    requires { vec_len columns.old < vec_capacity columns.old }
+    ensures ok { OnOk result ((column : Defined)
+        × DefinesItem schema.now (slice_index_or schema.now.tables table no_table) join qualified item.now column
+        × (columns.new.items ≡ columns.old.items ++ column ∷ [])) }
+    ensures err { IfErr result (λ e. e ≡ Refusal.OutOfMemory) }
+    ensures capacity { vec_capacity columns.new ≡ vec_capacity columns.old }
+{
+    match item {
+        Item::Column(ordinal) => {
+            columns.push_reserved(define_shown(alloc, schema, table, join, *ordinal));
+            Ok(())
+        }
+        _ => {
+            columns.push_reserved(define_item(alloc, schema, table, join, qualified, item)?);
+            Ok(())
+        }
+    }
+}
+
 fn flag_at(flags: &[bool], ordinal: usize) -> bool
     ensures { result ≡ slice_index_or flags.now ordinal false }
 {
@@ -371,11 +401,10 @@ pub fn columns_of<'e>(
     ensures ok { IfOk result (AreColumns schema.now table join items.now qualified.now) }
     ensures err { IfErr result (λ e. e ≡ Refusal.OutOfMemory) }
 {
-    let mut columns = Items::from_vec(Vec::with_capacity(alloc, items.len())?);
+    let mut columns = Vec::with_capacity(alloc, items.len())?;
     for item in items {
         let named_whole = flag_at(qualified, columns.len());
-        let column = define_item(alloc, schema, table, join, named_whole, item)?;
-        columns.push(column)?;
+        push_item(alloc, schema, table, join, named_whole, item, &mut columns)?;
     }
-    Ok(columns)
+    Ok(Items::from_vec(columns))
 }

@@ -14,7 +14,7 @@ mod reply;
 mod texts;
 
 pub use access::{Access, Handshake};
-pub use answers::answer_fed;
+pub use answers::{answer_command, answer_fed};
 pub use columns::columns_of;
 pub use connection_state::{
     ConnectionState, PendingLogin, Phase, Settings, end_of, first_number, is_in_commands, is_new,

@@ -1,5 +1,5 @@
 //! The reply to a statement: what its text gives its client, and the packets that carry it.
-ghost use Rattle.std.specs.Prelude.{◌≡◌, ℕ, ◌+◌, ◌≤◌, ◌⊎◌, true, false, [], length, Some, None, is_some, IsSome, IfOk, IfErr, Option};
+ghost use Rattle.std.specs.Prelude.{◌≡◌, ℕ, ◌+◌, ◌≤◌, ◌⊎◌, true, false, [], ◌++◌, length, Some, None, is_some, IsSome, IfOk, IfErr, Option};
 ghost use Rattle.std.specs.List.{concat};
 ghost use Rattle.shard_calls.specs.Pendings.{IsOf};
 ghost use Rattle.mysql_packet.specs.Frames.{frame};
@@ -14,6 +14,7 @@ ghost use Rattle.conversation.specs.Packets.{reply_number};
 ghost use Rattle.conversation.specs.SessionContext.{status_flags};
 ghost use Rattle.conversation.specs.Talk.{AnswersPayload, set_end_of};
 ghost use Rattle.conversation.specs.inner.Replies.{reply_bytes};
+ghost use Rattle.conversation.specs.inner.Sessions.{command_payload};
 
 use crate::access::Handshake;
 use crate::client_reply::{ClientReply, ClientReplyKind, ShownSet};
@@ -26,7 +27,7 @@ use journal::Naming;
 use mysql_handshake::{DEPRECATE_EOF, is_set};
 use mysql_message::{Command, put_eof, put_err, put_ok, put_set_end, put_statistics, read_command};
 use mysql_packet::Payload;
-use resultset::{Chunks, SetEnd, encode_rows};
+use resultset::{Chunks, SetEnd, encode_rows_after};
 use route_engine::{Engine, Gate, Tx};
 use shard::{ShardPass, World};
 use std::alloc::Global;
@@ -97,30 +98,25 @@ fn set_end_of(capabilities: u32) -> SetEnd
     }
 }
 
-/// The packets of a result set, whose rows are shown as they are encoded, and dropped then. Refuses only for want of memory.
-fn chunks_of(
+/// Puts the packets of a result set into the buffer, and gives the full chunks before them. Its rows are shown as they are encoded, and dropped
+/// then. Refuses only for want of memory.
+fn put_set(
     alloc: Global,
     set: ShownSet,
     end: SetEnd,
     number: u8,
     status: u16,
+    reply: &mut BytesMut,
 ) -> Result<Chunks, Refusal>
-    ensures ok { IfOk result (λ chunks. concat chunks ≡ encoded end (Outcome.Rows set.entry) number status) }
+    requires empty { reply.old.items ≡ [] }
+    requires room { REPLY_ROOM ≤ reply.old.spare }
+    ensures ok { IfOk result (λ chunks. concat chunks ++ reply.new.items ≡ encoded end (Outcome.Rows set.entry) number status) }
     ensures err { IfErr result (λ e. e ≡ Refusal.OutOfMemory) }
+    ensures room { REPLY_ROOM ≤ length reply.new.items + reply.new.spare }
 {
     let ShownSet { columns, rows } = set;
     let rows = rows.pulled(alloc)?;
-    let mut chunks = Chunks::new(alloc);
-    let _next = encode_rows(
-        alloc,
-        columns.as_slice(),
-        rows,
-        number,
-        status,
-        end,
-        &mut chunks,
-    )?;
-    Ok(chunks)
+    encode_rows_after(alloc, columns.as_slice(), rows, number, status, end, reply)
 }
 
 /// The reply of a result set, or, if there is no memory for it, the refusal that says so.
@@ -138,16 +134,17 @@ fn put_rows(
         ⊎ (reply_bytes result reply.new.items ≡ encoded end (Outcome.Refused Refusal.OutOfMemory) number status) }
     ensures room { REPLY_ROOM ≤ length reply.new.items + reply.new.spare }
 {
-    match chunks_of(alloc, set, end, number, status) {
+    match put_set(alloc, set, end, number, status, reply) {
         Ok(chunks) => Some(chunks),
         Err(_) => {
+            reply.clear();
             put_refusal(number, Refusal::OutOfMemory, reply);
             None
         }
     }
 }
 
-/// The reply to a statement, in chunks if it has rows. If there is no memory for them, it is the refusal that says so; a count always
+/// The reply to a statement, after its full chunks if it has rows. If there is no memory for them, it is the refusal that says so; a count always
 /// has room.
 fn put_outcome(
     alloc: Global,
@@ -282,8 +279,9 @@ fn put_query<W: World + Send + Sync, J: Naming + Send + Sync, G: Gate>(
     (ConnectionState::At(Phase::Commands(then)), rows)
 }
 
-/// The reply to a command whose numbers are right, and the session's state after it. A reply of rows lies in chunks, each other in the buffer.
-fn put_command<W: World + Send + Sync, J: Naming + Send + Sync, G: Gate>(
+/// The reply to a command whose numbers are right, of which the last is given, and the session's state after it. A reply lies in the buffer, and
+/// what comes before that of a long one in chunks.
+pub(crate) fn put_command<W: World + Send + Sync, J: Naming + Send + Sync, G: Gate>(
     rt: &(impl Threads + Wait + Sync),
     alloc: Global,
     engine: &Engine<W, J, G>,
@@ -291,23 +289,23 @@ fn put_command<W: World + Send + Sync, J: Naming + Send + Sync, G: Gate>(
     tx: &mut Tx<W, J>,
     handshake: &Handshake,
     settings: Settings,
-    payload: &Payload,
+    last: u8,
+    bytes: &[u8],
     reply: &mut BytesMut,
 ) -> (ConnectionState, Option<Chunks>)
     requires empty { reply.old.items ≡ [] }
     requires room { REPLY_ROOM ≤ reply.old.spare }
     requires session { IsSome pass.old.session }
     requires tx { IsOf W.opening tx.old pass.old }
-    requires number { payload.now.first ≡ 0 }
     ensures answers { LeadsKept W.opening pass.old tx.old pass.new tx.new
-        (λ s now. AnswersPayload (context_of W.opening handshake.now) (Means W.opening W.limits) (Phase.Commands settings) s payload.now (reply_bytes result.1 reply.new.items) result.0 now) }
+        (λ s now. AnswersPayload (context_of W.opening handshake.now) (Means W.opening W.limits) (Phase.Commands settings) s (command_payload last bytes.now) (reply_bytes result.1 reply.new.items) result.0 now) }
     ensures tx { IsOf W.opening tx.new pass.new }
     ensures room { REPLY_ROOM ≤ length reply.new.items + reply.new.spare }
     ensures session { pass.new.session ≡ pass.old.session }
 {
-    let number = payload.last.wrapping_add(1);
+    let number = last.wrapping_add(1);
     let next = ConnectionState::At(Phase::Commands(settings));
-    match read_command(payload.bytes.as_slice()) {
+    match read_command(bytes) {
         Err(refusal) => {
             put_refusal(number, refusal, reply);
             (next, None)
@@ -344,7 +342,8 @@ fn put_command<W: World + Send + Sync, J: Naming + Send + Sync, G: Gate>(
     }
 }
 
-/// What is written for one payload in the phase, and the session's state after it. A reply of rows lies in chunks, each other in the buffer.
+/// What is written for one payload in the phase, and the session's state after it. A reply lies in the buffer, and what comes before that of a
+/// long one in chunks.
 pub fn put_reply<W: World + Send + Sync, J: Naming + Send + Sync, G: Gate>(
     rt: &(impl Threads + Wait + Sync),
     alloc: Global,
@@ -390,8 +389,18 @@ pub fn put_reply<W: World + Send + Sync, J: Naming + Send + Sync, G: Gate>(
             None,
         ),
         Phase::Commands(settings) => {
+            let bytes = payload.bytes.as_slice();
             put_command(
-                rt, alloc, engine, pass, tx, handshake, settings, payload, reply,
+                rt,
+                alloc,
+                engine,
+                pass,
+                tx,
+                handshake,
+                settings,
+                payload.last,
+                bytes,
+                reply,
             )
         }
     }
