@@ -1,7 +1,8 @@
 //! A session without its devices: what it knows, and what it writes for a piece of the input. The loop above it only moves bytes.
-ghost use Rattle.std.specs.Prelude.{◌≡◌, ℕ, ◌+◌, ◌≤◌, true, false, List, None, length, Err, IsSome, IfOk, IfErr, ◌⊎◌};
+ghost use Rattle.std.specs.Prelude.{◌≡◌, ℕ, ◌+◌, ◌≤◌, true, false, List, [], None, length, Err, IsSome, IfSome, IfOk, IfErr, ◌⊎◌};
 ghost use Rattle.std.specs.Io.KnownBytes.{Appends};
 ghost use Rattle.mysql_packet.specs.declared.framer.Fed.{Fed};
+ghost use Rattle.mysql_packet.specs.Frames.{packet};
 ghost use Rattle.vschema.specs.WellFormed.{is_vschema};
 ghost use Rattle.journal.specs.Runs.{IsLegal};
 ghost use Rattle.shard_run.specs.Openings.{IsOpening};
@@ -13,12 +14,12 @@ ghost use Rattle.conversation.specs.Means.{Means, context_of};
 ghost use Rattle.conversation.specs.inner.Means.{LeadsKept};
 ghost use Rattle.conversation.specs.ConnectionStates.{end_of};
 ghost use Rattle.conversation.specs.Sessions.{AnswersFed};
-ghost use Rattle.conversation.specs.inner.Sessions.{FedBy};
+ghost use Rattle.conversation.specs.inner.Sessions.{FedBy, one_command};
 
 use bytes::BytesMut;
 use conversation::{
     Access, ConnectionState, End, Handshake, Phase, REPLY_ROOM, SessionFault, Settings, Sink,
-    answer_fed, end_of, is_in_commands,
+    answer_command, answer_fed, end_of, is_in_commands,
 };
 use journal::Naming;
 use mysql_packet::Framer;
@@ -46,8 +47,59 @@ pub fn begins_with<W: World + Send + Sync, J: Naming + Send + Sync, G: Gate>(
     let _ = pass.session();
 }
 
-/// The replies to a piece of the input, and the session's state after it.
-fn feed_parts<W: World + Send + Sync, J: Naming + Send + Sync, G: Gate, S: Sink>(
+/// The bytes after the header, if a piece is one packet of the number 0 that a command may have.
+fn one_packet(piece: &[u8]) -> Option<&[u8]>
+    ensures packet { IfSome result (λ bytes. piece.now ≡ packet 0 bytes.now) }
+    ensures short { IfSome result (λ bytes. length bytes.now ≤ COMMAND_LIMIT) }
+{
+    let [low, middle, high, 0, bytes @ ..] = piece else {
+        return None;
+    };
+    let len = bytes.len();
+    if len > COMMAND_LIMIT
+        || *low as usize != len % 256
+        || *middle as usize != len / 256 % 256
+        || *high as usize != len / 256 / 256 % 256
+    {
+        return None;
+    }
+    Some(bytes)
+}
+
+/// The bytes after the header of such a piece, if nothing came in part before it.
+fn packet_between<'p>(framer: &Framer, piece: &'p [u8]) -> Option<&'p [u8]>
+    ensures between { IfSome result (λ _. framer.now.rest ≡ []) }
+    ensures packet { IfSome result (λ bytes. piece.now ≡ packet 0 bytes.now) }
+    ensures short { IfSome result (λ bytes. length bytes.now ≤ COMMAND_LIMIT) }
+{
+    if framer.is_between_payloads() {
+        one_packet(piece)
+    } else {
+        None
+    }
+}
+
+/// The settings and the bytes of a command, if a piece is its one packet and nothing came in part before it: most pieces are.
+fn whole_command<'p>(
+    begin: ConnectionState,
+    framer: &Framer,
+    piece: &'p [u8],
+) -> Option<(Settings, &'p [u8])>
+    requires limit { framer.now.limit ≡ COMMAND_LIMIT }
+    ensures begins { IfSome result (λ found. begin ≡ ConnectionState.At (Phase.Commands found.0)) }
+    ensures framed { IfSome result (λ found. FedBy framer.now framer.now piece.now (one_command found.1.now)) }
+{
+    match begin {
+        ConnectionState::At(Phase::Commands(settings)) => match packet_between(framer, piece) {
+            Some(bytes) => Some((settings, bytes)),
+            None => None,
+        },
+        _ => None,
+    }
+}
+
+/// The replies to a piece of the input as its framer cuts it, and the session's state after it.
+fn feed_framed<W: World + Send + Sync, J: Naming + Send + Sync, G: Gate, S: Sink>(
     rt: &(impl Threads + Wait + Sync),
     alloc: Global,
     engine: &Engine<W, J, G>,
@@ -89,6 +141,54 @@ fn feed_parts<W: World + Send + Sync, J: Naming + Send + Sync, G: Gate, S: Sink>
     }
 }
 
+/// The replies to a piece of the input, and the session's state after it.
+fn feed_parts<W: World + Send + Sync, J: Naming + Send + Sync, G: Gate, S: Sink>(
+    rt: &(impl Threads + Wait + Sync),
+    alloc: Global,
+    engine: &Engine<W, J, G>,
+    pass: &mut ShardPass<W, J>,
+    tx: &mut Tx<W, J>,
+    handshake: &Handshake,
+    begin: ConnectionState,
+    piece: &[u8],
+    framer: &mut Framer,
+    reply: &mut BytesMut,
+    sink: &mut S,
+) -> Result<ConnectionState, SessionFault>
+    requires limit { framer.old.limit ≡ COMMAND_LIMIT }
+    requires room { REPLY_ROOM ≤ length reply.old.items + reply.old.spare }
+    requires session { IsSome pass.old.session }
+    requires tx { IsOf W.opening tx.old pass.old }
+    requires open_session { end_of begin ≡ None }
+    ensures answers { IfOk result (λ connection_state. (fed : Fed) × FedBy framer.old framer.new piece.now fed × ((out : List ℕ)
+        × Appends (S.taken sink.old) (S.taken sink.new) out × LeadsKept W.opening pass.old tx.old pass.new tx.new
+        (λ s now. AnswersFed (context_of W.opening handshake.now) (Means W.opening W.limits) begin s fed out connection_state now))) }
+    ensures write { result ≡ Err SessionFault.Write → (fed : Fed) × FedBy framer.old framer.new piece.now fed × ((written : List ℕ)
+        × Appends (S.taken sink.old) (S.taken sink.new) written × LeadsKept W.opening pass.old tx.old pass.new tx.new
+        (λ s now. IsCutOff (context_of W.opening handshake.now) (Means W.opening W.limits) begin s fed written now)) }
+    ensures memory { result ≡ Err SessionFault.Memory → (pass.new ≡ pass.old) × (tx.new ≡ tx.old) × (sink.new ≡ sink.old) × (framer.new ≡ framer.old) }
+    ensures count { S.failures sink.new ≡ write_failures_after result (S.failures sink.old) }
+    ensures limit { framer.new.limit ≡ framer.old.limit }
+    ensures room { REPLY_ROOM ≤ length reply.new.items + reply.new.spare }
+    ensures cause { IfErr result (λ e. (e ≡ SessionFault.Memory) ⊎ (e ≡ SessionFault.Write)) }
+    ensures tx { IsOf W.opening tx.new pass.new }
+    ensures session { pass.new.session ≡ pass.old.session }
+{
+    match whole_command(begin, framer, piece) {
+        Some((settings, command)) => {
+            match answer_command(
+                rt, alloc, engine, pass, tx, handshake, settings, command, reply, sink,
+            ) {
+                Ok(connection_state) => Ok(connection_state),
+                Err(_) => Err(SessionFault::Write),
+            }
+        }
+        None => feed_framed(
+            rt, alloc, engine, pass, tx, handshake, begin, piece, framer, reply, sink,
+        ),
+    }
+}
+
 /// A session, without the devices that its bytes come from and go to. Its open transaction is dropped with it, and leaves no entry. Contracts
 /// see what it knows of its input, its state, and what it keeps of its transaction.
 #[derive(Drop)]
@@ -101,8 +201,9 @@ pub struct Core<W: World, J: Naming> {
 }
 
 impl<W: World, J: Naming> Model for Core<W, J> {
-    ghost use Rattle.std.specs.Prelude.{◌+◌, ◌≤◌, length};
+    ghost use Rattle.std.specs.Prelude.{◌≡◌, ◌+◌, ◌≤◌, length};
     ghost use Rattle.conversation.specs.declared.reply.TheConstants.{REPLY_ROOM};
+    ghost use Rattle.session.specs.declared.session_core.TheConstants.{COMMAND_LIMIT};
     ghost use Rattle.conversation.specs.Sessions.{SessionState};
     ghost use Rattle.std.specs.Coded.{codes};
     ghost use Rattle.vschema.specs.contracts.changes.Write as write;
@@ -113,8 +214,8 @@ impl<W: World, J: Naming> Model for Core<W, J> {
 
     ghost view = { λ c. record { handshake = c.handshake; framing = c.framer; connection_state = c.connection_state; tx = c.tx } };
 
-    // The refusal of a payload always has room.
-    ghost invariant = { λ c. REPLY_ROOM ≤ length c.reply.items + c.reply.spare };
+    // The refusal of a payload always has room, and no command is longer than the limit.
+    ghost invariant = { λ c. (REPLY_ROOM ≤ length c.reply.items + c.reply.spare) × (c.framer.limit ≡ COMMAND_LIMIT) };
 }
 
 fn end_between(is_between_payloads: bool, is_let_in: bool) -> End

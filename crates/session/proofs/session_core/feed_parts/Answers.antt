@@ -1,16 +1,10 @@
-use Rattle.conversation.proofs.Conversations.{fed_by}
+use Rattle.conversation.specs.inner.Sessions.{one_command}
 use Rattle.session.proofs.session_core.feed_parts.Goals as goal
 
-pub returns-in-Ok-answer_fed-clause-answers : goal.returns-in-Ok-answer_fed-clause-answers
-returns-in-Ok-answer_fed-clause-answers g c = (
-  c.in-Ok.fed,
-  fed_by c.args.framer.now c.feed.new.self c.args.piece.now c.in-Ok.fed c.in-Ok.ensures.payloads c.in-Ok.ensures.fault c.in-Ok.ensures.limit,
-  c.in-Ok-answer_fed.ensures.answers,
-)
+pub returns-in-Ok-clause-answers : goal.returns-in-Ok-clause-answers
+returns-in-Ok-clause-answers g c =
+    (one_command c.in-Some.command.now, c.in-Some.ensures.framed, rw (← c.in-Some.ensures.begins) at c.in-Ok.ensures.answers)
 
-pub returns-clause-write : goal.returns-clause-write
-returns-clause-write g c = λ is. (
-  c.in-Ok.fed,
-  fed_by c.args.framer.now c.feed.new.self c.args.piece.now c.in-Ok.fed c.in-Ok.ensures.payloads c.in-Ok.ensures.fault c.in-Ok.ensures.limit,
-  c.in-Err.ensures.cut,
-)
+pub returns-in-Err-clause-write : goal.returns-in-Err-clause-write
+returns-in-Err-clause-write g c = λ is.
+    (one_command c.in-Some.command.now, c.in-Some.ensures.framed, rw (← c.in-Some.ensures.begins) at c.in-Err.ensures.cut)
