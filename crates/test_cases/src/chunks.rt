@@ -1,9 +1,10 @@
-//! What `encode_rows` writes, compared with what `encode` does, and where its rows fail.
+//! What `encode_rows` and `encode_rows_after` write, compared with what `encode` does, and where the rows fail.
 use crate::failing::Failing;
 use bytes::BytesMut;
 use operators::Rows;
 use resultset::{
-    CHUNK_LIMIT, Chunks, Column, ColumnText, Kind, Outcome, ResultSet, SetEnd, encode, encode_rows,
+    CHUNK_LIMIT, Chunks, Column, ColumnText, Kind, LAST_ROOM, Outcome, ResultSet, SetEnd, encode,
+    encode_rows, encode_rows_after,
 };
 use std::alloc::Global;
 use vt_value::{Items, Refusal, Row, Value};
@@ -66,16 +67,29 @@ fn joined(alloc: Global, chunks: &Chunks) -> Result<Vec<u8>, Refusal> {
     Ok(bytes)
 }
 
+/// The bytes of `encode_rows_after` for rows of texts: its chunks, and then its buffer.
+fn after(alloc: Global, lengths: &[usize], end: SetEnd) -> Result<Vec<u8>, Refusal> {
+    let columns = columns(alloc)?;
+    let rows = Rows::new(alloc, texts(alloc, lengths)?)?;
+    let mut last = BytesMut::with_capacity(alloc, LAST_ROOM)?;
+    let columns = columns.as_slice();
+    let chunks = encode_rows_after(alloc, columns, rows, 1, STATUS, end, &mut last)?;
+    let mut bytes = joined(alloc, &chunks)?;
+    bytes.extend_from_slice(last.as_slice())?;
+    Ok(bytes)
+}
+
 fn are_joined(alloc: Global, chunks: &Chunks, bytes: &[u8]) -> Result<bool, Refusal> {
     Ok(joined(alloc, chunks)?.as_slice() == bytes)
 }
 
-/// Whether both ways give the same bytes and number, and how many chunks there are.
+/// Whether the ways give the same bytes and number, and how many chunks there are.
 fn compared(alloc: Global, lengths: &[usize], end: SetEnd) -> Result<(bool, usize), Refusal> {
     let (chunks, next) = pulled(alloc, lengths, end)?;
     let (bytes, wanted) = whole(alloc, lengths, end)?;
     let same = are_joined(alloc, &chunks, bytes.as_slice())?;
-    Ok((same && next == wanted, chunks.as_slice().len()))
+    let also = after(alloc, lengths, end)?.as_slice() == bytes.as_slice();
+    Ok((same && also && next == wanted, chunks.as_slice().len()))
 }
 
 // Whether rows of these lengths are the same bytes both ways, in so many chunks, however result sets end.
