@@ -1,0 +1,282 @@
+//! Queries outside a transaction: the shards that a plan needs are read, and what they give is finished; while one doesn't answer, the query waits.
+ghost use Rattle.std.specs.Prelude.{◌≡◌, ◌<◌, ◌∷◌, [], IfOk, IfErr, IfSome, IfNone, ◌⊎◌, map, length};
+ghost use Rattle.vschema.specs.Sources.{JoinsInPlace};
+ghost use Rattle.journal.specs.Runs.{IsLegal};
+ghost use Rattle.serving.specs.Partitions.{AreOf};
+ghost use Rattle.shard_law.specs.Entries.{MayFollow};
+ghost use Rattle.shard_run.specs.Runs.{answers_queries};
+ghost use Rattle.shard_calls.specs.Answers.{needed, HasGone, HasRead, IsHeldUp, MayReadRefuse};
+ghost use Rattle.shard_calls.specs.inner.Scatter.{IsScattered, IsFinished, CanJoinAll, AllInOrder};
+
+use crate::engine::Engine;
+use crate::shown::{shown_by, shown_whole};
+use journal::Naming;
+use operators::{Operator, Rows};
+use planner::{Plan, Route, plan};
+use serving::{Partition, Seated, ShardReference};
+use shard::{Shard, ShardPass, World};
+use shard_calls::{
+    Answer, Gate, Gathered, GatheredAlone, Reply, Selected, ShardRead, gather, gather_alone,
+    job_for, jobs, only_needed, read_all, read_one,
+};
+use sql_eval::narrow;
+use sql_tree::Item;
+use std::alloc::Global;
+use std::sync::Wait;
+use std::thread::Threads;
+use vschema::{Query, Table};
+use vt_value::{Items, Refusal, Row};
+
+// The one part that a query by its key needs.
+fn lone_part<'e, S: Seated + Drop>(
+    parts: &'e [ShardReference<S>],
+    table: &Table,
+    plan: &Plan,
+) -> Option<&'e ShardReference<S>>
+    ensures { IfSome result (λ part. needed table.now plan.now.route parts.now ≡ part.now ∷ []) }
+{
+    match &plan.route {
+        Route::EqualUnique(_) => match only_needed(parts, table, &plan.route) {
+            Ok(Some(part)) => Some(part),
+            _ => None,
+        },
+        _ => None,
+    }
+}
+
+impl<W: World + Send + Sync, J: Naming + Send + Sync, G: Gate> Engine<W, J, G> {
+    // What the shards of the partition give for the plan; nothing if one of them doesn't serve.
+    fn scatter<R: Threads + Wait + Sync>(
+        &self,
+        rt: &R,
+        alloc: Global,
+        pass: &mut ShardPass<W, J>,
+        partition: &Partition<Shard<W, J>>,
+        table: &Table,
+        plan: &Plan,
+    ) -> Result<Option<Gathered>, Refusal>
+        requires partition { AreOf table.now.keyspace partition.now }
+        requires legal { IsLegal (MayFollow W.opening) pass.old.seen }
+        ensures gone { HasGone W.opening pass.old pass.new }
+        ensures ok { IfOk result (λ r. IfSome r (λ g. IsScattered W.opening table.now plan.now pass.old (map ⟦<Rows as Operator>⟧.to_come g.pieces.items) g.reads pass.new)) }
+        ensures stalled { IfOk result (λ r. IfNone r (IsHeldUp W.opening table.now plan.now.route answers_queries pass.old.seen pass.new.seen)) }
+        ensures err { IfErr result (λ e. e ≡ Refusal.OutOfMemory) }
+    {
+        let jobs = jobs(alloc, pass, partition.parts(), table, plan)?;
+        let done = read_all(rt, alloc, &self.gate, jobs)?;
+        gather(alloc, pass, done)
+    }
+
+    // What the part's shard gives for the plan, which needs no other by the partition; nothing if it doesn't serve.
+    fn ask_alone(
+        &self,
+        rt: &impl Wait,
+        alloc: Global,
+        pass: &mut ShardPass<W, J>,
+        partition: &Partition<Shard<W, J>>,
+        part: &ShardReference<Shard<W, J>>,
+        table: &Table,
+        plan: &Plan,
+    ) -> Result<Option<GatheredAlone>, Refusal>
+        requires partition { AreOf table.now.keyspace partition.now }
+        requires needed { needed table.now plan.now.route partition.now ≡ part.now ∷ [] }
+        requires legal { IsLegal (MayFollow W.opening) pass.old.seen }
+        ensures gone { HasGone W.opening pass.old pass.new }
+        ensures ok { IfOk result (λ r. IfSome r (λ g. IsScattered W.opening table.now plan.now pass.old (g.rows ∷ []) g.reads pass.new)) }
+        ensures stalled { IfOk result (λ r. IfNone r (IsHeldUp W.opening table.now plan.now.route answers_queries pass.old.seen pass.new.seen)) }
+        ensures err { IfErr result (λ e. e ≡ Refusal.OutOfMemory) }
+    {
+        // its parts are those of a partition
+        let _ = partition.parts();
+        let job = job_for(alloc, pass, 0, part, table, plan)?;
+        let done = read_one(rt, alloc, &self.gate, job);
+        gather_alone(alloc, pass, done)
+    }
+
+    // The rows of the plan's query over one shard, which alone it needs by the partition, and what the reply says of it; nothing if that
+    // doesn't serve.
+    fn answer_alone(
+        &self,
+        rt: &impl Wait,
+        alloc: Global,
+        pass: &mut ShardPass<W, J>,
+        partition: &Partition<Shard<W, J>>,
+        part: &ShardReference<Shard<W, J>>,
+        table: &Table,
+        plan: &Plan,
+    ) -> Result<Option<(Items<Row>, Items<ShardRead>)>, Refusal>
+        requires partition { AreOf table.now.keyspace partition.now }
+        requires needed { needed table.now plan.now.route partition.now ≡ part.now ∷ [] }
+        requires fit { CanJoinAll W.opening table.now plan.now pass.old }
+        requires order { AllInOrder W.opening table.now plan.now pass.old }
+        requires legal { IsLegal (MayFollow W.opening) pass.old.seen }
+        ensures gone { HasGone W.opening pass.old pass.new }
+        ensures ok { IfOk result (λ r. IfSome r (λ x. IsFinished W.opening table.now plan.now pass.old x.0 x.1 pass.new)) }
+        ensures stalled { IfOk result (λ r. IfNone r (IsHeldUp W.opening table.now plan.now.route answers_queries pass.old.seen pass.new.seen)) }
+        ensures err { IfErr result (λ e. e ≡ Refusal.OutOfMemory) }
+    {
+        let Some(gathered) = self.ask_alone(rt, alloc, pass, partition, part, table, plan)? else {
+            return Ok(None);
+        };
+        let GatheredAlone { rows, reads } = gathered;
+        match plan.finish.answer_alone(alloc, rows) {
+            Ok(answered) => Ok(Some((answered, reads))),
+            Err(refusal) => {
+                drop(reads);
+                Err(refusal)
+            }
+        }
+    }
+
+    // The rows of the plan's query over the shards that it needs by the partition, and what the reply says of these; nothing if one of them
+    // doesn't serve.
+    fn answer_by<R: Threads + Wait + Sync>(
+        &self,
+        rt: &R,
+        alloc: Global,
+        pass: &mut ShardPass<W, J>,
+        partition: &Partition<Shard<W, J>>,
+        table: &Table,
+        plan: &Plan,
+    ) -> Result<Option<(Items<Row>, Items<ShardRead>)>, Refusal>
+        requires partition { AreOf table.now.keyspace partition.now }
+        requires fit { CanJoinAll W.opening table.now plan.now pass.old }
+        requires order { AllInOrder W.opening table.now plan.now pass.old }
+        requires legal { IsLegal (MayFollow W.opening) pass.old.seen }
+        ensures gone { HasGone W.opening pass.old pass.new }
+        ensures ok { IfOk result (λ r. IfSome r (λ x. IsFinished W.opening table.now plan.now pass.old x.0 x.1 pass.new)) }
+        ensures stalled { IfOk result (λ r. IfNone r (IsHeldUp W.opening table.now plan.now.route answers_queries pass.old.seen pass.new.seen)) }
+        ensures err { IfErr result (λ e. e ≡ Refusal.OutOfMemory) }
+    {
+        if let Some(part) = lone_part(partition.parts(), table, plan) {
+            return self.answer_alone(rt, alloc, pass, partition, part, table, plan);
+        }
+        let Some(gathered) = self.scatter(rt, alloc, pass, partition, table, plan)? else {
+            return Ok(None);
+        };
+        let Gathered { pieces, reads } = gathered;
+        match plan.finish.answer_in_order(alloc, pieces) {
+            Ok(rows) => Ok(Some((rows, reads))),
+            Err(refusal) => {
+                drop(reads);
+                Err(refusal)
+            }
+        }
+    }
+
+    // The rows of the plan's query over the shards that it needs, once all of them serve, and what the reply says of these: until then it
+    // waits in the buffer, and begins again with the present partition.
+    fn answer<R: Threads + Wait + Sync>(
+        &self,
+        rt: &R,
+        alloc: Global,
+        pass: &mut ShardPass<W, J>,
+        table: &Table,
+        plan: &Plan,
+    ) -> Result<(Items<Row>, Items<ShardRead>), Refusal>
+        requires keyspace { table.now.keyspace < length self.now.keyspaces }
+        requires fit { CanJoinAll W.opening table.now plan.now pass.old }
+        requires order { AllInOrder W.opening table.now plan.now pass.old }
+        requires legal { IsLegal (MayFollow W.opening) pass.old.seen }
+        ensures gone { HasGone W.opening pass.old pass.new }
+        ensures ok { IfOk result (λ r. IsFinished W.opening table.now plan.now pass.old r.0 r.1 pass.new) }
+        ensures err { IfErr result (λ e. (e ≡ Refusal.OutOfMemory)
+            ⊎ ((e ≡ Refusal.BufferFull) × IsHeldUp W.opening table.now plan.now.route answers_queries pass.old.seen pass.new.seen)) }
+    {
+        for _ in rt.forever() {
+            let attempt = self.attempt(rt, table.keyspace);
+            let partition = attempt.partition();
+            if let Some(answered) = self.answer_by(rt, alloc, pass, partition, table, plan)? {
+                return Ok(answered);
+            }
+            attempt.wait(rt)?;
+        }
+        unreachable!()
+    }
+
+    // What the query shows, and its rows over the shards that its plan needs.
+    fn rows_over<R: Threads + Wait + Sync>(
+        &self,
+        rt: &R,
+        alloc: Global,
+        pass: &mut ShardPass<W, J>,
+        query: Query,
+    ) -> Result<
+        (
+            (Items<Item<usize>>, Items<bool>),
+            (Items<Row>, Items<ShardRead>),
+        ),
+        Refusal,
+    >
+        requires there { query.table < length self.now.tables }
+        requires joins { JoinsInPlace W.opening.schema query }
+        requires legal { IsLegal (MayFollow W.opening) pass.old.seen }
+        ensures ok { IfOk result (λ r. HasRead W.opening pass.old query (record {
+          answer = Answer.Rows (record {
+            table = query.table;
+            join = query.join;
+            items = r.0.0;
+            qualified = r.0.1;
+            rows = r.1.0;
+          });
+          reads = r.1.1;
+        }) pass.new) }
+        ensures items { IfOk result (λ r. r.0.0 ≡ query.items) }
+        ensures err { IfErr result (λ r. MayReadRefuse W.opening pass.old query r pass.new) }
+    {
+        let ordinal = query.table;
+        let table = &self.schema.tables.as_slice()[ordinal];
+        let mut plan = match plan(alloc, &self.schema, query) {
+            Ok(plan) => plan,
+            Err(refusal) => return Err(refusal),
+        };
+        let answered = self.answer(rt, alloc, pass, table, &plan);
+        let shown = shown_by(alloc, &mut plan);
+        match answered {
+            Ok(read) => Ok((shown, read)),
+            Err(refusal) => {
+                drop(shown);
+                Err(refusal)
+            }
+        }
+    }
+
+    /// What the query gives over the shards that its plan needs. Each of its items is read once, and the rows are shown whole as they go out.
+    pub(crate) fn select<R: Threads + Wait + Sync>(
+        &self,
+        rt: &R,
+        alloc: Global,
+        pass: &mut ShardPass<W, J>,
+        query: Query,
+    ) -> Result<Reply, Refusal>
+        requires there { query.table < length self.now.tables }
+        requires joins { JoinsInPlace W.opening.schema query }
+        requires legal { IsLegal (MayFollow W.opening) pass.old.seen }
+        ensures ok { IfOk result (λ reply. HasRead W.opening pass.old query reply pass.new) }
+        ensures err { IfErr result (λ r. MayReadRefuse W.opening pass.old query r pass.new) }
+    {
+        let ordinal = query.table;
+        let join = query.join;
+        let mut query = query;
+        let whole = narrow(alloc, &mut query)?;
+        match self.rows_over(rt, alloc, pass, query) {
+            Ok(((items, qualified), (rows, reads))) => {
+                let (items, rows) = shown_whole(whole, items, rows);
+                Ok(Reply {
+                    answer: Answer::Rows(Selected {
+                        table: ordinal,
+                        join,
+                        items,
+                        qualified,
+                        rows,
+                    }),
+                    reads,
+                })
+            }
+            Err(refusal) => {
+                drop(whole);
+                Err(refusal)
+            }
+        }
+    }
+}
