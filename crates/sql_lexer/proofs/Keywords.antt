@@ -1,6 +1,6 @@
 -- Keywords in any case.
-use Rattle.std.proofs.Common.{◌≡◌, ◌∙◌, ℕ, Bool, true, false, cond, eqb, leb, ◌&&◌, ◌||◌, List, [], ◌∷◌, length, map, Option, Some, None, refl, sym, ap, subst, arith}
-use Rattle.std.specs.List.{filter, find, list_all, list_any}
+use Rattle.std.proofs.Common.{◌≡◌, ℕ, Bool, true, false, cond, eqb, leb, ◌&&◌, ◌||◌, List, [], ◌∷◌, length, map, Some, None, refl, sym, ap, subst, arith}
+use Rattle.std.specs.List.{find, list_all, list_any}
 use Rattle.std.specs.Str.{bytes_eq}
 use Rattle.std.specs.Char.{to_ascii_lowercase}
 use Rattle.std.proofs.lemmas.Bool.{leb-true, le-leb, and_parts, or_parts, or_from}
@@ -8,7 +8,7 @@ use Rattle.std.proofs.lemmas.Bool.Decides.{nat_tests}
 use Rattle.std.proofs.lemmas.List.{length-map}
 use Rattle.std.proofs.lemmas.Slice.Eq.{bytes_eq-Decides}
 use Rattle.sql_lexer.specs.declared.token.Keyword.{Keyword}
-use Rattle.sql_lexer.specs.declared.token.Keyword.TheVariants.{And, Begin, Commit, Count, Delete, Desc, From, Group, Inner, Insert, Into, Join, Limit, Names, Null, Offset, Order, Select, Start, Update, Values, Where}
+use Rattle.sql_lexer.specs.declared.token.Keyword.TheVariants.{And}
 use Rattle.sql_lexer.specs.Keywords.{keywords, keyword_text}
 use Rattle.sql_lexer.specs.Lexemes.{is_letter, is_word_byte, upper_case, max_word, is_word, is_spelling_of, is_keyword}
 use Rattle.sql_lexer.specs.inner.Scanning.{keyword_at}
@@ -47,7 +47,7 @@ finds_itself : (k : Keyword) → find (λ j. bytes_eq (keyword_text k) (keyword_
 finds_itself And = refl
 finds_itself _ = refl
 
-spelled : (word : List ℕ) (k : Keyword) → is_spelling_of word k ≡ true → map upper_case word ≡ keyword_text k
+pub spelled : (word : List ℕ) (k : Keyword) → is_spelling_of word k ≡ true → map upper_case word ≡ keyword_text k
 spelled word k h = (bytes_eq-Decides (map upper_case word) (keyword_text k)).0 h
 
 letter_from_upper : (a : ℕ) → is_upper (upper_case a) ≡ true → is_letter a ≡ true
@@ -111,7 +111,7 @@ no_keyword_again word e = none_found (is_spelling_of word) keywords e
 
 -- ---- the keywords of a length
 
-not_spelled : (word : List ℕ) (n : ℕ) → length word ≡ n → (k : Keyword) → eqb (length (keyword_text k)) n ≡ false → is_spelling_of word k ≡ false
+pub not_spelled : (word : List ℕ) (n : ℕ) → length word ≡ n → (k : Keyword) → eqb (length (keyword_text k)) n ≡ false → is_spelling_of word k ≡ false
 not_spelled word n e k h = go (is_spelling_of word k) refl
   where
     go : (b : Bool) → is_spelling_of word k ≡ b → b ≡ false
@@ -120,78 +120,7 @@ not_spelled word n e k h = go (is_spelling_of word k) refl
         let same : length word ≡ length (keyword_text k) = simp length-map at (ap length (spelled word k is)) in
         grind (arith, nat_tests)
 
-find_of_length : (word : List ℕ) (n : ℕ) → length word ≡ n → (ks : List Keyword)
-    → find (is_spelling_of word) (filter (λ k. eqb (length (keyword_text k)) n) ks) ≡ find (is_spelling_of word) ks
-find_of_length word n e [] = refl
-find_of_length word n e (k ∷ ks) = go (eqb (length (keyword_text k)) n) refl (find_of_length word n e ks)
-  where
-    go : (b : Bool) → eqb (length (keyword_text k)) n ≡ b
-        → find (is_spelling_of word) (filter (λ k. eqb (length (keyword_text k)) n) ks) ≡ find (is_spelling_of word) ks
-        → find (is_spelling_of word) (cond b (k ∷ filter (λ k. eqb (length (keyword_text k)) n) ks) (filter (λ k. eqb (length (keyword_text k)) n) ks))
-        ≡ cond (is_spelling_of word k) (Some k) (find (is_spelling_of word) ks)
-    go true h rec = ap (cond (is_spelling_of word k) (Some k)) rec
-    go false h rec = rw (not_spelled word n e k h) rec
-
--- a word is looked for among the keywords of its length alone
-pub keyword_of_length : (word : List ℕ) (n : ℕ) → length word ≡ n
-    → find (is_spelling_of word) (filter (λ k. eqb (length (keyword_text k)) n) keywords) ≡ keyword_at word
-unfolding keyword_at
-keyword_of_length word n e = find_of_length word n e keywords
-
-pub keyword_of_any : (word : List ℕ) → find (is_spelling_of word) keywords ≡ keyword_at word
-unfolding keyword_at
-keyword_of_any word = refl
-
--- a list has each keyword of a length, which is found there
-abbrev Finds : ℕ → List Keyword → Keyword → Type 0
-Finds n ks k = cond (eqb (length (keyword_text k)) n) (find (λ j. bytes_eq (keyword_text k) (keyword_text j)) ks) (Some k) ≡ Some k
-
-spelled_length : (word : List ℕ) (n : ℕ) → length word ≡ n → (k : Keyword) → is_spelling_of word k ≡ true → eqb (length (keyword_text k)) n ≡ true
+pub spelled_length : (word : List ℕ) (n : ℕ) → length word ≡ n → (k : Keyword) → is_spelling_of word k ≡ true → eqb (length (keyword_text k)) n ≡ true
 spelled_length word n e k is =
     let same : length word ≡ length (keyword_text k) = simp length-map at (ap length (spelled word k is)) in
     grind (arith, nat_tests)
-
--- a word is looked for among the keywords of its length, in any order
-find_in_any_order : (word : List ℕ) (n : ℕ) → length word ≡ n → (ks : List Keyword) → ((k : Keyword) → Finds n ks k)
-    → find (is_spelling_of word) ks ≡ keyword_at word
-find_in_any_order word n e ks all = go (find (is_spelling_of word) ks) refl (keyword_at word) refl
-  where
-    found : (k : Keyword) → is_spelling_of word k ≡ true → find (is_spelling_of word) ks ≡ Some k
-    found k h =
-        let here : find (λ j. bytes_eq (keyword_text k) (keyword_text j)) ks ≡ Some k = rw (spelled_length word n e k h) at (all k) in
-        subst (λ (t : List ℕ). find (λ j. bytes_eq t (keyword_text j)) ks ≡ Some k) (sym (spelled word k h)) here
-
-    go : (o : Option Keyword) → find (is_spelling_of word) ks ≡ o → (u : Option Keyword) → keyword_at word ≡ u → find (is_spelling_of word) ks ≡ keyword_at word
-    go (Some k) is u has = is ∙ sym (keyword_again word k (find_passes (is_spelling_of word) ks k is))
-    go None is (Some k) has = found k (keyword_sound word k has) ∙ sym has
-    go None is None has = is ∙ sym has
-
-abbrev four : List Keyword
-four = From ∷ Into ∷ Desc ∷ Join ∷ Null ∷ []
-
-finds_four : (k : Keyword) → Finds 4 four k
-finds_four And = refl
-finds_four _ = refl
-
-pub keyword_of_four : (word : List ℕ) → length word ≡ 4 → find (is_spelling_of word) (From ∷ Into ∷ Desc ∷ Join ∷ Null ∷ []) ≡ keyword_at word
-keyword_of_four word e = find_in_any_order word 4 e four finds_four
-
-abbrev five : List Keyword
-five = Where ∷ Begin ∷ Count ∷ Group ∷ Inner ∷ Limit ∷ Names ∷ Order ∷ Start ∷ []
-
-finds_five : (k : Keyword) → Finds 5 five k
-finds_five And = refl
-finds_five _ = refl
-
-pub keyword_of_five : (word : List ℕ) → length word ≡ 5 → find (is_spelling_of word) (Where ∷ Begin ∷ Count ∷ Group ∷ Inner ∷ Limit ∷ Names ∷ Order ∷ Start ∷ []) ≡ keyword_at word
-keyword_of_five word e = find_in_any_order word 5 e five finds_five
-
-abbrev six : List Keyword
-six = Select ∷ Insert ∷ Values ∷ Update ∷ Delete ∷ Commit ∷ Offset ∷ []
-
-finds_six : (k : Keyword) → Finds 6 six k
-finds_six And = refl
-finds_six _ = refl
-
-pub keyword_of_six : (word : List ℕ) → length word ≡ 6 → find (is_spelling_of word) (Select ∷ Insert ∷ Values ∷ Update ∷ Delete ∷ Commit ∷ Offset ∷ []) ≡ keyword_at word
-keyword_of_six word e = find_in_any_order word 6 e six finds_six

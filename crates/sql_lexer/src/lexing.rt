@@ -10,7 +10,8 @@ ghost use Rattle.sql_lexer.specs.inner.Scanning.{token_at, lex_at};
 
 use crate::body::text_len;
 use crate::byte::{
-    begins_blank, begins_letter, begins_word_byte, is_digit, is_letter, number_len, word_len,
+    begins_blank, begins_letter, begins_word_byte, is_digit, is_letter, number_len, word_code,
+    word_len,
 };
 use crate::keyword::keyword_of;
 use crate::token::{Sign, Token, TokenKind};
@@ -30,11 +31,11 @@ type Front = (TokenKind, usize);
 fn word(rest: &[u8]) -> Option<Front>
     ensures { result ≡ word_at rest.now }
 {
-    let length = word_len(rest);
+    let (length, code) = word_code(rest);
     if length > MAX_WORD {
         return None;
     }
-    match keyword_of(&rest[..length]) {
+    match keyword_of(&rest[..length], code) {
         Some(keyword) => Some((TokenKind::Keyword(keyword), length)),
         None => Some((TokenKind::Word, length)),
     }

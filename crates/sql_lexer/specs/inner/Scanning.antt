@@ -1,6 +1,6 @@
 -- Reading tokens from left to right. No public clause cites this file: the code is shown to be as it says, and it to agree with the definitions.
-use Rattle.std.specs.Prelude.{ℕ, zero, suc, ◌+◌, ◌==◌, nat_le, Bool, false, ◌&&◌, List, [], ◌∷◌, take, drop, Option, Some, None, if◌then◌else◌}
-use Rattle.std.specs.List.{find}
+use Rattle.std.specs.Prelude.{ℕ, zero, suc, ◌+◌, ◌*◌, ◌%◌, ◌^◌, ◌==◌, nat_le, Bool, false, ◌&&◌, List, [], ◌∷◌, length, take, drop, Option, Some, None, if◌then◌else◌}
+use Rattle.std.specs.List.{filter, find}
 use Rattle.vt_value.specs.declared.value.Comparison.{Comparison}
 use Rattle.vt_value.specs.declared.value.Comparison.TheVariants.{Eq, Ne, Lt, Le, Gt, Ge}
 use Rattle.sql_lexer.specs.declared.body.TextState.{TextState}
@@ -11,9 +11,9 @@ use Rattle.sql_lexer.specs.declared.token.Sign.TheVariants.{LeftParenthesis, Rig
 use Rattle.sql_lexer.specs.declared.token.Token.{Token}
 use Rattle.sql_lexer.specs.declared.token.TokenKind.{TokenKind}
 use Rattle.sql_lexer.specs.declared.token.TokenKind.TheVariants.{Keyword, Word, Quoted, Number, Text, Sign, Operator}
-use Rattle.sql_lexer.specs.Keywords.{keywords}
+use Rattle.sql_lexer.specs.Keywords.{keywords, keyword_text}
 use Rattle.sql_lexer.specs.inner.Results.{◌>>=◌}
-use Rattle.sql_lexer.specs.Lexemes.{is_blank, is_letter, is_digit, is_word_byte, is_spelling_of, max_word}
+use Rattle.sql_lexer.specs.Lexemes.{is_blank, is_letter, is_digit, is_word_byte, upper_case, is_spelling_of, max_word}
 
 -- the kind of the token at the front, and how many bytes it has
 abbrev pub Front : Type 0
@@ -36,6 +36,26 @@ word_kind None = Word
 -- the keyword that a word is in some case
 unfoldable pub keyword_at : List ℕ → Option K.Keyword
 keyword_at word = find (is_spelling_of word) keywords
+
+-- a byte of a word in upper case
+abbrev pub upper_at : ℕ → Option ℕ
+upper_at b = if is_word_byte b then Some (upper_case b) else None
+
+-- The code of a word is its bytes in upper case, the first the highest, as far as 64 bits hold them.
+abbrev pub code_with : ℕ → ℕ → ℕ
+code_with code upper = (code * 0x100 % 2 ^ 64 + upper) % 2 ^ 64
+
+-- the code of a word whose last bytes are at the front
+abbrev pub code_from : ℕ → List ℕ → ℕ
+code_from code [] = code
+code_from code (b ∷ bytes) = if is_word_byte b then code_from (code_with code (upper_case b)) bytes else code
+
+abbrev pub has_code : ℕ → K.Keyword → Bool
+has_code code k = code_from 0 (keyword_text k) == code
+
+-- the keywords whose codes tell them apart from all other words of so many bytes
+abbrev pub short_keywords : List K.Keyword
+short_keywords = filter (λ k. nat_le (length (keyword_text k)) 8) keywords
 
 unfoldable pub word_at : List ℕ → Option Front
 word_at bytes =
