@@ -8,7 +8,7 @@ ghost use Rattle.sql_tree.specs.Literals.{literals_of};
 ghost use Rattle.sql_tree.specs.Printing.{printed};
 ghost use Rattle.sql_parser.specs.Grammar.{Reads, is_setting};
 ghost use Rattle.sql_parser.specs.Qualifiers.{qualifies_outside_select};
-ghost use Rattle.sql_parser.specs.inner.Reading.{charset_at, setting_at, control_at, select_text_at, control_text_at, text_at};
+ghost use Rattle.sql_parser.specs.inner.Reading.{charset_at, setting_at, control_at, select_text_at, control_text_at, text_of_kind, text_at};
 
 use crate::clauses::{filter, from, group, join, limit, order};
 use crate::endings::{ends_select, is_end};
@@ -151,7 +151,7 @@ fn control<'s>(
     }
 }
 
-/// A statement of sessions and transactions, to the end of the text. It is no part of `whole`, so that other statements don't
+/// A statement of sessions and transactions, to the end of the text. It is no part of `parse`, so that other statements don't
 /// pay for its room.
 #[inline(never)]
 fn whole_control(alloc: Global, text: &[u8], tokens: &[Token]) -> Result<Statement, Refusal>
@@ -165,21 +165,32 @@ fn whole_control(alloc: Global, text: &[u8], tokens: &[Token]) -> Result<Stateme
     }
 }
 
-/// statement = select | insert | update | delete | one of sessions and transactions, which all of the tokens are.
+/// What a statement is by its first words: one of rows, or else one of sessions and transactions.
+#[derive(Clone, Copy, Debug, PartialEq, Eq)]
+enum Kind {
+    Select,
+    Insert,
+    Update,
+    Delete,
+    Control,
+}
+
+/// The kind of the statement that begins here, and the tokens after its first words. One of sessions and transactions is left whole.
 #[tactic(auto, unfolding(crate::specs::inner::Reading::text_at, crate::specs::inner::Reading::statement_at))]
-fn whole(alloc: Global, text: &[u8], tokens: &[Token]) -> Result<Statement, Refusal>
-    ensures { AgreesWith (λ x. x) result (text_at (lexemes_of text.now tokens.now)) }
+fn kind_of(tokens: &[Token]) -> (Kind, &[Token])
+    ensures { (text : List ℕ)
+        → text_of_kind result.0 (lexemes_of text result.1.now) ≡ text_at (lexemes_of text tokens.now) }
 {
     match tokens {
-        [Token { kind: SELECT, .. }, rest @ ..] => select(alloc, text, rest),
+        [Token { kind: SELECT, .. }, rest @ ..] => (Kind::Select, rest),
         [
             Token { kind: INSERT, .. },
             Token { kind: INTO, .. },
             rest @ ..,
-        ] => insert(alloc, text, rest),
-        [Token { kind: UPDATE, .. }, rest @ ..] => update(alloc, text, rest),
-        [Token { kind: DELETE, .. }, rest @ ..] => delete(alloc, text, rest),
-        _ => whole_control(alloc, text, tokens),
+        ] => (Kind::Insert, rest),
+        [Token { kind: UPDATE, .. }, rest @ ..] => (Kind::Update, rest),
+        [Token { kind: DELETE, .. }, rest @ ..] => (Kind::Delete, rest),
+        _ => (Kind::Control, tokens),
     }
 }
 
@@ -197,7 +208,15 @@ pub fn parse(alloc: Global, text: &[u8]) -> Result<Statement, Refusal>
     ensures err { IfErr result (λ e. (e ≡ Refusal.OutOfMemory) ⊎ (e ≡ Refusal.SyntaxError)) }
 {
     let tokens = lex(alloc, text)?;
-    whole(alloc, text, &tokens)
+    let (kind, rest) = kind_of(&tokens);
+    // A `return` copies the statement once, where the value of the whole `match` would be copied twice.
+    match kind {
+        Kind::Select => return select(alloc, text, rest),
+        Kind::Insert => return insert(alloc, text, rest),
+        Kind::Update => return update(alloc, text, rest),
+        Kind::Delete => return delete(alloc, text, rest),
+        Kind::Control => return whole_control(alloc, text, rest),
+    }
 }
 
 // Promise: A text has one tree at most; the printed form of a text's tree is a text of that tree

@@ -31,6 +31,8 @@ use Rattle.sql_tree.specs.declared.Statement.{Statement}
 use Rattle.sql_tree.specs.declared.Statement.TheVariants.{Select, Insert, Update, Delete, Begin, Commit, Rollback, SetNames}
 use Rattle.sql_tree.specs.Literals.{Name, literals_of}
 use Rattle.sql_parser.specs.Qualifiers.{qualifies_outside_select}
+use Rattle.sql_parser.specs.declared.reading.Kind.{Kind}
+use Rattle.sql_parser.specs.declared.reading.Kind.TheVariants as kind
 use Rattle.sql_parser.specs.Grammar.{Lexemes, Joined, ReadsNot, max_depth, max_literals, is_setting}
 
 -- what is read at the front, and what comes after it
@@ -410,6 +412,14 @@ delete_text_at ts = ended (delete_at ts >>= λ x. Some (Delete x.0, x.1))
 
 abbrev pub control_text_at : Lexemes → Option Statement
 control_text_at ts = ended (control_at ts)
+
+-- the rest of a text, by what its first words say that it is
+abbrev pub text_of_kind : Kind → Lexemes → Option Statement
+text_of_kind kind.Select ts = select_text_at ts
+text_of_kind kind.Insert ts = insert_text_at ts
+text_of_kind kind.Update ts = update_text_at ts
+text_of_kind kind.Delete ts = delete_text_at ts
+text_of_kind kind.Control ts = control_text_at ts
 
 -- not | not AND not AND .., as the grammar has it
 abbrev pub ReadsAnd : ℕ → Lexemes → Condition ColumnName → Type 0
