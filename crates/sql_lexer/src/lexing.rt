@@ -127,15 +127,17 @@ fn token(rest: &[u8]) -> Option<Front>
 {
     match rest {
         [] => None,
-        [b'`', after @ ..] => quoted(after),
-        [b'\'', after @ ..] => text(after),
         [first, after @ ..] => {
             if is_letter(*first) {
                 word(rest)
             } else if is_digit(*first) {
                 number(rest)
             } else {
-                mark(*first, after)
+                match *first {
+                    b'`' => quoted(after),
+                    b'\'' => text(after),
+                    first => mark(first, after),
+                }
             }
         }
     }
