@@ -10,12 +10,13 @@ ghost use Rattle.sql_parser.specs.Grammar.{Reads, is_setting};
 ghost use Rattle.sql_parser.specs.Qualifiers.{qualifies_outside_select};
 ghost use Rattle.sql_parser.specs.inner.Reading.{charset_at, setting_at, control_at, select_text_at, control_text_at, text_of_kind, text_at};
 
-use crate::clauses::{filter, from, group, join, limit, order};
+use crate::clauses::{filter, from, join};
 use crate::endings::{ends_select, is_end};
 use crate::items::list;
 use crate::kinds::{
     BEGIN, COMMIT, DELETE, INSERT, INTO, NAMES, ROLLBACK, SELECT, SET, START, TRANSACTION, UPDATE,
 };
+use crate::last_clauses::last_clauses;
 use crate::names::name;
 use crate::said;
 use crate::writes::{delete, equals, insert, update};
@@ -33,9 +34,7 @@ fn select(alloc: Global, text: &[u8], tokens: &[Token]) -> Result<Statement, Ref
     let (table, rest) = from(alloc, text, rest)?;
     let (join, rest) = join(alloc, text, rest)?;
     let (filter, rest) = filter(alloc, text, rest)?;
-    let (group_by, rest) = group(alloc, text, rest)?;
-    let (order_by, rest) = order(alloc, text, rest)?;
-    let (limit, rest) = limit(text, rest)?;
+    let (last, rest) = last_clauses(alloc, text, rest)?;
     if !ends_select(&filter, rest) {
         return Err(Refusal::SyntaxError);
     }
@@ -44,9 +43,9 @@ fn select(alloc: Global, text: &[u8], tokens: &[Token]) -> Result<Statement, Ref
         table,
         join,
         filter,
-        group_by,
-        order_by,
-        limit,
+        group_by: last.group_by,
+        order_by: last.order_by,
+        limit: last.limit,
     }))
 }
 

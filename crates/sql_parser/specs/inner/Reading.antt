@@ -31,6 +31,7 @@ use Rattle.sql_tree.specs.declared.Statement.{Statement}
 use Rattle.sql_tree.specs.declared.Statement.TheVariants.{Select, Insert, Update, Delete, Begin, Commit, Rollback, SetNames}
 use Rattle.sql_tree.specs.Literals.{Name, literals_of}
 use Rattle.sql_parser.specs.Qualifiers.{qualifies_outside_select}
+use Rattle.sql_parser.specs.declared.last_clauses.LastClauses.{LastClauses}
 use Rattle.sql_parser.specs.declared.reading.Kind.{Kind}
 use Rattle.sql_parser.specs.declared.reading.Kind.TheVariants as kind
 use Rattle.sql_parser.specs.Grammar.{Lexemes, Joined, ReadsNot, max_depth, max_literals, is_setting}
@@ -329,6 +330,14 @@ select_at ts = do
   order_by ← order_at group_by.1
   limit ← limit_at order_by.1
   Some (record { list = list.0; table = table.0; join = join.0; filter = filter.0; group_by = group_by.0; order_by = order_by.0; limit = limit.0 }, limit.1)
+
+-- the clauses after a filter
+abbrev pub last_clauses_at : Lexemes → Read LastClauses
+last_clauses_at ts = do
+  group_by ← group_at ts
+  order_by ← order_at group_by.1
+  limit ← limit_at order_by.1
+  Some (record { group_by = group_by.0; order_by = order_by.0; limit = limit.0 }, limit.1)
 
 unfoldable pub insert_at : Lexemes → Read I.Insert
 insert_at ts = do

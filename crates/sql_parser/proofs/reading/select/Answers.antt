@@ -1,11 +1,20 @@
-use Rattle.std.proofs.Common.{Option, refl}
+use Rattle.std.proofs.Common.{List, Option, refl}
 use Rattle.std.proofs.lemmas.Result.{err_from_is_err_and}
 use Rattle.vt_value.specs.declared.refusal.Refusal.{Refusal}
 use Rattle.vt_value.specs.declared.refusal.Refusal.TheVariants as r
 use Rattle.sql_lexer.specs.Lexemes.{lexemes_of}
 use Rattle.sql_lexer.specs.inner.Results.{◌>>=◌, Fails}
+use Rattle.sql_tree.specs.declared.ColumnName.{ColumnName}
+use Rattle.sql_tree.specs.declared.JoinOn.{JoinOn}
+use Rattle.sql_tree.specs.declared.Condition.{Condition}
+use Rattle.sql_tree.specs.declared.Key.{Key}
+use Rattle.sql_tree.specs.declared.LimitClause.{LimitClause}
+use Rattle.sql_tree.specs.declared.SelectList.{SelectList}
+use Rattle.sql_tree.specs.declared.Select as S
+use Rattle.sql_tree.specs.Literals.{Name}
 use Rattle.sql_parser.specs.inner.Reading.{select_at}
-use Rattle.sql_parser.proofs.WholeTexts.{select_ends}
+use Rattle.sql_parser.proofs.LastClauses.{made_of_last}
+use Rattle.sql_parser.proofs.WholeTexts.{select_ends, select_goes_on}
 use Rattle.sql_parser.proofs.reading.select.Goals as goal
 
 -- What isn't read isn't read with more after it.
@@ -18,6 +27,10 @@ fails_with_more _ read more h = absurd h
 fails_in : {A B C D : Type 0} (e : Refusal) (read : Option A) (more : A → Option B) (node : B → Option C) (end : C → Option D) → Fails e read
     → Fails e (((read >>= more) >>= node) >>= end)
 fails_in e read more node end h = fails_with_more e _ end (fails_with_more e _ node (fails_with_more e read more h))
+
+abbrev make : SelectList → Name → Option JoinOn → Option (Condition ColumnName) → List ColumnName → List (Key ColumnName) → Option LimitClause → S.Select
+make list table join filter group_by order_by limit =
+    record { list = list; table = table; join = join; filter = filter; group_by = group_by; order_by = order_by; limit = limit }
 
 pub returns-in_err-list : goal.returns-in_err-list
 unfolding select_at
@@ -43,27 +56,28 @@ returns-in_err-filter c =
     let p = err_from_is_err_and c.from_residual-in_err-filter.result c.from_residual-in_err-filter.ensures.1 in
     rw (p.1, p.2) (rw (c.in_ok-list.ensures, c.in_ok-table.ensures, c.in_ok-join.ensures) (fails_in c.in_err-filter.field-0.0 _ _ _ _ c.in_err-filter.ensures))
 
-pub returns-in_err-group_by : goal.returns-in_err-group_by
+pub returns-in_err-last : goal.returns-in_err-last
 unfolding select_at
-returns-in_err-group_by c =
-    let p = err_from_is_err_and c.from_residual-in_err-group_by.result c.from_residual-in_err-group_by.ensures.1 in
-    rw (p.1, p.2) (rw (c.in_ok-list.ensures, c.in_ok-table.ensures, c.in_ok-join.ensures, c.in_ok-filter.ensures) (fails_in c.in_err-group_by.field-0.0 _ _ _ _ c.in_err-group_by.ensures))
+returns-in_err-last c =
+    let p = err_from_is_err_and c.from_residual-in_err-last.result c.from_residual-in_err-last.ensures.1 in
+    let rest = lexemes_of c.args.text.now c.in_ok-filter.rest.now in
+    rw (p.1, p.2) (rw (c.in_ok-list.ensures, c.in_ok-table.ensures, c.in_ok-join.ensures, c.in_ok-filter.ensures, made_of_last (make c.in_ok-list.list c.in_ok-table.table c.in_ok-join.join c.in_ok-filter.filter) rest)
+    (fails_in c.in_err-last.field-0.0 _ _ _ _ c.in_err-last.ensures))
 
-pub returns-in_err-order_by : goal.returns-in_err-order_by
+pub returns-then-not-ends_select : goal.returns-then-not-ends_select
 unfolding select_at
-returns-in_err-order_by c =
-    let p = err_from_is_err_and c.from_residual-in_err-order_by.result c.from_residual-in_err-order_by.ensures.1 in
-    rw (p.1, p.2) (rw (c.in_ok-list.ensures, c.in_ok-table.ensures, c.in_ok-join.ensures, c.in_ok-filter.ensures, c.in_ok-group_by.ensures) (fails_in c.in_err-order_by.field-0.0 _ _ _ _ c.in_err-order_by.ensures))
-
-pub returns-in_err-limit : goal.returns-in_err-limit
-unfolding select_at
-returns-in_err-limit c =
-    let p = err_from_is_err_and c.from_residual-in_err-limit.result c.from_residual-in_err-limit.ensures.1 in
-    rw (p.1, p.2) (rw (c.in_ok-list.ensures, c.in_ok-table.ensures, c.in_ok-join.ensures, c.in_ok-filter.ensures, c.in_ok-group_by.ensures, c.in_ok-order_by.ensures) (fails_in c.in_err-limit.field-0.0 _ _ _ _ c.in_err-limit.ensures))
+returns-then-not-ends_select c =
+    let ends = c.if-not-ends_select.ensures c.args.text.now in
+    let with = make c.in_ok-list.list c.in_ok-table.table c.in_ok-join.join c.in_ok-filter.filter in
+    let last = c.in_ok-last.last in
+    rw (c.in_ok-list.ensures, c.in_ok-table.ensures, c.in_ok-join.ensures, c.in_ok-filter.ensures, made_of_last with (lexemes_of c.args.text.now c.in_ok-filter.rest.now), c.in_ok-last.ensures)
+    (select_goes_on (with last.group_by last.order_by last.limit) (lexemes_of c.args.text.now c.in_ok-last.rest.now) ends)
 
 pub returns : goal.returns
 unfolding select_at
 returns c =
     let ends = c.if-not-ends_select.ensures c.args.text.now in
-    rw (c.in_ok-list.ensures, c.in_ok-table.ensures, c.in_ok-join.ensures, c.in_ok-filter.ensures, c.in_ok-group_by.ensures, c.in_ok-order_by.ensures, c.in_ok-limit.ensures)
-    (select_ends (record { list = c.in_ok-list.list; table = c.in_ok-table.table; join = c.in_ok-join.join; filter = c.in_ok-filter.filter; group_by = c.in_ok-group_by.group_by; order_by = c.in_ok-order_by.order_by; limit = c.in_ok-limit.limit }) (lexemes_of c.args.text.now c.in_ok-limit.rest.now) ends)
+    let with = make c.in_ok-list.list c.in_ok-table.table c.in_ok-join.join c.in_ok-filter.filter in
+    let last = c.in_ok-last.last in
+    rw (c.in_ok-list.ensures, c.in_ok-table.ensures, c.in_ok-join.ensures, c.in_ok-filter.ensures, made_of_last with (lexemes_of c.args.text.now c.in_ok-filter.rest.now), c.in_ok-last.ensures)
+    (select_ends (with last.group_by last.order_by last.limit) (lexemes_of c.args.text.now c.in_ok-last.rest.now) ends)
