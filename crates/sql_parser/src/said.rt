@@ -1,5 +1,5 @@
 //! What tokens say.
-ghost use Rattle.std.specs.Prelude.{◌≡◌, ◌+◌, ◌-◌, ◌*◌, slice_range, IfOk, IfErr};
+ghost use Rattle.std.specs.Prelude.{◌≡◌, ◌≤◌, ◌+◌, ◌-◌, ◌*◌, length, slice_range, IfOk, IfErr};
 ghost use Rattle.std.specs.Option.{option_copied};
 ghost use Rattle.sql_lexer.specs.Lexemes.{digits_onto, inner, unescaped};
 ghost use Rattle.sql_parser.specs.inner.Reading.{said, identifier_of, natural_of, fitting};
@@ -8,6 +8,9 @@ use crate::unescaping::unescaped;
 use sql_lexer::{Token, TokenKind};
 use std::alloc::Global;
 use vt_value::{Items, Refusal};
+
+/// How many digits are read without a look at whether 64 bits hold their value.
+const FEW_DIGITS: usize = 16;
 
 /// The bytes of a token, as far as the text has them.
 fn bytes_of<'s>(text: &'s [u8], token: &Token) -> &'s [u8]
@@ -47,8 +50,21 @@ fn with_digit(value: u64, digit: u8) -> Option<u64>
     value.checked_mul(10)?.checked_add(digit)
 }
 
-/// The value of decimal digits, if 64 bits hold it.
-fn value_of(digits: &[u8]) -> Option<u64>
+/// The value of so few digits that 64 bits hold it, whatever they are.
+fn small_value(digits: &[u8]) -> u64
+    requires { length digits.now ≤ 16 }
+    ensures { result ≡ digits_onto 0 digits.now }
+{
+    let mut value = 0;
+    for digit in digits {
+        value = value * 10 + u64::from(digit.saturating_sub(b'0'));
+    }
+    value
+}
+
+/// The value of any number of digits, if 64 bits hold it. It is no part of `value_of`, so that a small number doesn't pay for it.
+#[inline(never)]
+fn large_value(digits: &[u8]) -> Option<u64>
     ensures { result ≡ fitting (digits_onto 0 digits.now) }
 {
     let mut value = 0;
@@ -56,6 +72,17 @@ fn value_of(digits: &[u8]) -> Option<u64>
         value = with_digit(value, *digit)?;
     }
     Some(value)
+}
+
+/// The value of decimal digits, if 64 bits hold it.
+fn value_of(digits: &[u8]) -> Option<u64>
+    ensures { result ≡ fitting (digits_onto 0 digits.now) }
+{
+    if digits.len() <= FEW_DIGITS {
+        Some(small_value(digits))
+    } else {
+        large_value(digits)
+    }
 }
 
 /// The number that a token says, if 64 bits hold it.

@@ -3,7 +3,7 @@ use Rattle.std.proofs.lemmas.List.{length-drop}
 use Rattle.sql_lexer.specs.Lexemes.{digits_onto}
 use Rattle.sql_parser.specs.inner.Reading.{fitting}
 use Rattle.sql_parser.proofs.Digits.{fits, fitting_is, stays_too_large, all_read}
-use Rattle.sql_parser.proofs.said.value_of.Goals as goal
+use Rattle.sql_parser.proofs.said.large_value.Goals as goal
 
 pub returns-in_err-value : goal.returns-in_err-value
 returns-in_err-value c =
