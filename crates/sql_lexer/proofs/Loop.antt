@@ -1,10 +1,11 @@
 -- The loop over a text, against the reading of all of it.
 use Rattle.std.proofs.Common.{◌≡◌, ℕ, zero, suc, ◌+◌, ◌≤◌, ◌<◌, true, false, List, [], ◌∷◌, ◌++◌, length, drop, Option, Some, None, refl, sym, ap, ◌∙◌, append_assoc, arith}
-use Rattle.std.proofs.lemmas.List.{append-nil, length-drop}
+use Rattle.std.proofs.lemmas.List.{append-nil, length-append, length-drop}
 use Rattle.sql_lexer.specs.declared.token.Token.{Token}
 use Rattle.sql_lexer.specs.Lexemes.{is_blank}
 use Rattle.sql_lexer.specs.inner.Results.{◌>>=◌}
 use Rattle.sql_lexer.specs.inner.Scanning.{Front, first_passes, token_at, lex_at}
+use Rattle.sql_lexer.proofs.Options.{some_is}
 use Rattle.sql_lexer.proofs.Lexes.{token_of, token_within, at_blank, at_token}
 
 abbrev pub with_front : List Token → Option (List Token) → Option (List Token)
@@ -74,3 +75,11 @@ module _ (front : List Token) (total : Option (List Token)) where
       go [] empty zero e = sym e ∙ ap (λ (ts : List Token). Some ts) (append-nil front)
       go [] empty (suc n) e = sym e ∙ ap (λ (ts : List Token). Some ts) (append-nil front)
       go (b ∷ bs) empty n e = absurd (omega arith)
+
+  -- all of the tokens are no fewer than those that were read
+  pub no_fewer : (at : ℕ) (rest : List ℕ) (all : List Token) → total ≡ Some all → StillReads front at rest total → length front ≤ length all
+  no_fewer at rest all e s = go (lex_at s.fuel at rest) (s.so_far ∙ e)
+    where
+      go : (r : Option (List Token)) → with_front front r ≡ Some all → length front ≤ length all
+      go None e = absurd cc
+      go (Some ts) e = let same : front ++ ts ≡ all = some_is (front ++ ts) all e in omega (arith, length-append front ts, ap length same)

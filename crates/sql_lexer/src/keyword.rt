@@ -98,6 +98,7 @@ fn is_spelling_of(word: &[u8], keyword: Keyword) -> bool
 }
 
 /// The keyword of at most 8 bytes that has this code: its bytes, the first the highest.
+#[inline(always)]
 fn with_code(code: u64) -> Option<Keyword>
     ensures { result ≡ find (has_code code) short_keywords }
 {
@@ -141,6 +142,7 @@ fn with_code(code: u64) -> Option<Keyword>
 }
 
 /// The keyword that the word with this code is in some case.
+#[inline(always)]
 pub fn keyword_of(word: &[u8], code: u64) -> Option<Keyword>
     requires bytes { list_all is_word_byte word.now ≡ true }
     requires code { code ≡ code_from 0 word.now }

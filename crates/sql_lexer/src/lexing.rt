@@ -27,6 +27,7 @@ const TOKENS: usize = 16;
 /// The kind of the token at a text's front, and how many bytes it has.
 type Front = (TokenKind, usize);
 
+#[inline(always)]
 #[tactic(auto, unfolding(crate::specs::inner::Scanning::word_at))]
 fn word(rest: &[u8]) -> Option<Front>
     ensures { result ≡ word_at rest.now }
@@ -109,6 +110,7 @@ fn operator(first: u8, after: &[u8]) -> Option<(Comparison, usize)>
 }
 
 /// A sign or an operator that begins with this byte.
+#[inline(always)]
 #[tactic(auto, unfolding(crate::specs::inner::Scanning::mark_at))]
 fn mark(first: u8, after: &[u8]) -> Option<Front>
     ensures { result ≡ mark_at first after.now }
@@ -120,9 +122,11 @@ fn mark(first: u8, after: &[u8]) -> Option<Front>
     Some((TokenKind::Operator(comparison), length))
 }
 
-/// The token at the front.
+/// The token at the front. It is part of both loops over tokens, and so is what reads its word or its mark: a call for each token
+/// costs as much as some of them do.
+#[inline(always)]
 #[tactic(auto, unfolding(crate::specs::inner::Scanning::token_at))]
-fn token(rest: &[u8]) -> Option<Front>
+pub fn token(rest: &[u8]) -> Option<Front>
     ensures { result ≡ token_at rest.now }
 {
     match rest {
@@ -143,7 +147,7 @@ fn token(rest: &[u8]) -> Option<Front>
     }
 }
 
-fn rest_from(text: &[u8], at: usize) -> &[u8]
+pub fn rest_from(text: &[u8], at: usize) -> &[u8]
     requires { at ≤ length text.now }
     ensures { result.now ≡ drop at text.now }
 {

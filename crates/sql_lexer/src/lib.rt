@@ -3,10 +3,12 @@
 
 mod body;
 mod byte;
+mod few;
 mod keyword;
 mod lexing;
 mod token;
 
+pub use few::lex_few;
 pub use keyword::is_keyword;
 pub use lexing::{lex, longest, one_lexing};
 pub use token::{Keyword, Sign, Token, TokenKind};

@@ -1,7 +1,9 @@
 //! Reads the statement that tokens are, one function for each rule of the grammar. Each gives what it read, and the tokens that are left.
-ghost use Rattle.std.specs.Prelude.{◌≡◌, ◌⊎◌, ℕ, false, IfOk, IfErr, MatchResult, List, map, bytes_eq};
+ghost use Rattle.std.specs.Prelude.{◌≡◌, ◌≤◌, ◌⊎◌, ℕ, false, Some, None, IfSome, IfOk, IfErr, MatchResult, List, [], length, take, map, bytes_eq};
 ghost use Rattle.std.specs.Char.{to_ascii_lowercase};
+ghost use Rattle.sql_lexer.specs.declared.token.Token.{Token};
 ghost use Rattle.sql_lexer.specs.Lexemes.{lexemes_of};
+ghost use Rattle.sql_lexer.specs.Tokens.{Lexes};
 ghost use Rattle.sql_lexer.specs.inner.Results.{AgreesWith};
 ghost use Rattle.sql_tree.specs.declared.Statement.{Statement};
 ghost use Rattle.sql_tree.specs.Literals.{literals_of};
@@ -14,13 +16,14 @@ use crate::clauses::{filter, from, join};
 use crate::endings::{ends_select, is_end};
 use crate::items::list;
 use crate::kinds::{
-    BEGIN, COMMIT, DELETE, INSERT, INTO, NAMES, ROLLBACK, SELECT, SET, START, TRANSACTION, UPDATE,
+    BEGIN, COMMIT, DELETE, INSERT, INTO, NAMES, ROLLBACK, SELECT, SEMICOLON, SET, START,
+    TRANSACTION, UPDATE,
 };
 use crate::last_clauses::last_clauses;
 use crate::names::name;
 use crate::said;
 use crate::writes::{delete, equals, insert, update};
-use sql_lexer::{Token, TokenKind, lex};
+use sql_lexer::{Token, TokenKind, lex, lex_few};
 use sql_tree::{CharacterSet, Select, Statement};
 use std::alloc::Global;
 use vt_value::{Items, Refusal};
@@ -193,6 +196,58 @@ fn kind_of(tokens: &[Token]) -> (Kind, &[Token])
     }
 }
 
+/// For how many tokens there is room without memory: most statements by a key have less.
+const FEW: usize = 16;
+
+/// How many bytes such a statement has at most. A longer text has more tokens mostly, and would be cut twice.
+const SHORT: usize = 64;
+
+/// What such a room has where no token was read.
+const NO_TOKEN: Token = Token {
+    kind: SEMICOLON,
+    start: 0,
+    end: 0,
+};
+
+/// The tokens of a short text at the front of the room for them, and how many they are, if they are so few.
+fn short_tokens(text: &[u8], room: &mut [Token]) -> Option<usize>
+    ensures within { IfSome result (λ n. n ≤ length room.new) }
+    ensures found { IfSome result (λ n. Lexes text.now (take n room.new)) }
+    ensures only { length text.now ≤ 64 → (tokens : List Token) → Lexes text.now tokens → length tokens ≤ length room.old
+        → result ≡ Some (length tokens) }
+{
+    if text.len() <= SHORT {
+        lex_few(text, room)
+    } else {
+        None
+    }
+}
+
+/// The tokens of a text, or none if there are so many of them already.
+fn long_tokens(alloc: Global, text: &[u8], count: Option<usize>) -> Result<Vec<Token>, Refusal>
+    ensures none { IfSome count (λ _. IfOk result (λ v. v.items ≡ [])) }
+    ensures found { count ≡ None → IfOk result (λ v. Lexes text.now v.items) }
+    ensures only { (tokens : List Token) → Lexes text.now tokens → IfErr result (λ e. e ≡ Refusal.OutOfMemory) }
+    ensures err { IfErr result (λ e. (e ≡ Refusal.OutOfMemory) ⊎ (e ≡ Refusal.SyntaxError)) }
+{
+    match count {
+        Some(_) => Ok(Vec::new(alloc)),
+        None => lex(alloc, text),
+    }
+}
+
+/// The first so many of a few tokens, or else all of the many.
+fn chosen<'t>(count: Option<usize>, few: &'t [Token], many: &'t [Token]) -> &'t [Token]
+    requires { IfSome count (λ n. n ≤ length few.now) }
+    ensures few { IfSome count (λ n. result.now ≡ take n few.now) }
+    ensures many { count ≡ None → result.now ≡ many.now }
+{
+    match count {
+        Some(count) => &few[..count],
+        None => many,
+    }
+}
+
 // Promise: The tree of a text is given exactly when the whole grammar has one, within its limits, and a syntax error comes only if it
 // has none
 /// The tree of a text, which is one statement of the grammar with at most one semicolon after it. Any other text is a
@@ -206,8 +261,10 @@ pub fn parse(alloc: Global, text: &[u8]) -> Result<Statement, Refusal>
         → MatchResult result (λ t. t ≡ tree) (λ e. e ≡ Refusal.OutOfMemory) }
     ensures err { IfErr result (λ e. (e ≡ Refusal.OutOfMemory) ⊎ (e ≡ Refusal.SyntaxError)) }
 {
-    let tokens = lex(alloc, text)?;
-    let (kind, rest) = kind_of(&tokens);
+    let mut few = [NO_TOKEN; FEW];
+    let count = short_tokens(text, &mut few);
+    let many = long_tokens(alloc, text, count)?;
+    let (kind, rest) = kind_of(chosen(count, &few, &many));
     // A `return` copies the statement once, where the value of the whole `match` would be copied twice.
     match kind {
         Kind::Select => return select(alloc, text, rest),
