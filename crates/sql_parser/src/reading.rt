@@ -153,9 +153,8 @@ fn control<'s>(
     }
 }
 
-/// A statement of sessions and transactions, to the end of the text. It is no part of `parse`, so that other statements don't
-/// pay for its room.
-#[inline(never)]
+/// A statement of sessions and transactions, to the end of the text. Like the other kinds it may be part of `parse`: a call that is
+/// given the place of the result has it filled with zeros before, and copied after.
 fn whole_control(alloc: Global, text: &[u8], tokens: &[Token]) -> Result<Statement, Refusal>
     ensures { AgreesWith (λ x. x) result (control_text_at (lexemes_of text.now tokens.now)) }
 {
