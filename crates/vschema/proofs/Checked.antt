@@ -1,6 +1,5 @@
 -- Which check of a query fails.
-use Rattle.std.proofs.Common.{◌≡◌, ◌⊎◌, ⊎_elim, inl, inr, ℕ, true, false, Ok, Err, Some, None, Option, Result, ap, sym, subst, refl, ◌∙◌}
-use Rattle.std.specs.Prelude.{IfOk, IfErr, IfSome, IfNone}
+use Rattle.std.proofs.Common.{◌≡◌, ◌⊎◌, ⊎_elim, inl, inr, ℕ, true, false, Ok, Err, Option, ap, sym, refl, ◌∙◌}
 use Rattle.vt_value.specs.declared.refusal.Refusal.{Refusal}
 use Rattle.vt_value.specs.declared.refusal.Refusal.TheVariants.{NotSupported, NotGrouped, OutOfMemory}
 use Rattle.sql_tree.specs.declared.Select.{Select}

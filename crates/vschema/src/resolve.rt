@@ -289,13 +289,14 @@ pub fn resolve_filter(
     ensures ok { IfOk result (λ r. r ≡ option_map (resolved_condition scope.now) filter.now) }
     ensures err { IfErr result (λ e. e ≡ Refusal.OutOfMemory) }
 {
-    match filter {
-        None => Ok(None),
-        Some(condition) => {
-            let condition = resolve_condition(alloc, scope, condition)?;
-            Ok(Some(condition))
-        }
-    }
+    let Some(condition) = filter else {
+        return Ok(None);
+    };
+    let condition = match resolve_condition(alloc, scope, condition) {
+        Ok(condition) => condition,
+        Err(refusal) => return Err(refusal),
+    };
+    Ok(Some(condition))
 }
 
 fn left_ordinal(scope: &Scope, join: &JoinOn) -> usize
@@ -342,34 +343,6 @@ fn join_over(scope: &Scope, second: Option<usize>, join: &Option<JoinOn>) -> Opt
     }
 }
 
-fn query_over(
-    alloc: Global,
-    hashing: &Hashing,
-    ordinal: usize,
-    second: Option<usize>,
-    scope: &Scope,
-    select: &Select,
-) -> Result<Query, Refusal>
-    ensures ok { IfOk result (λ q. q ≡ over ordinal second scope.now select.now) }
-    ensures err { IfErr result (λ e. e ≡ Refusal.OutOfMemory) }
-{
-    let items = resolve_list(alloc, scope, &select.list)?;
-    let qualified = qualified_in(alloc, &select.list)?;
-    let group_by = resolve_columns(alloc, scope, select.group_by.as_slice())?;
-    let order_by = resolve_keys(alloc, scope, select.order_by.as_slice())?;
-    let filter = resolve_filter(alloc, scope, &select.filter)?;
-    Ok(Query {
-        table: ordinal,
-        join: join_over(scope, second, &select.join),
-        items,
-        qualified,
-        filter,
-        group_by: GroupBy::new(group_by, hashing.copy()),
-        order_by,
-        limit: select.limit,
-    })
-}
-
 fn grouping_refusal(alloc: Global, query: &Query) -> Option<Refusal>
     ensures none { IfNone result (shows_ungrouped query.now ≡ false) }
     ensures some { IfSome result (λ r. (r ≡ Refusal.OutOfMemory) ⊎ ((r ≡ Refusal.NotGrouped) × (shows_ungrouped query.now ≡ true))) }
@@ -393,149 +366,136 @@ fn late_refusal(alloc: Global, scope: &Scope, query: &Query) -> Option<Refusal>
     grouping_refusal(alloc, query)
 }
 
+// A query over its tables, whose ordinals are these.
 fn resolve_over(
     alloc: Global,
     hashing: &Hashing,
-    ordinal: usize,
-    second: Option<usize>,
-    scope: &Scope,
+    sources: &Sources,
     select: &Select,
 ) -> Result<Typed, Refusal>
-    ensures ok { IfOk result (λ t. as_query (checked ordinal second scope.now select.now) ≡ Ok t) }
-    ensures err { IfErr result (λ e. (e ≡ Refusal.OutOfMemory) ⊎ (as_query (checked ordinal second scope.now select.now) ≡ Err e)) }
+    ensures ok { IfOk result (λ t. as_query (checked sources.now.ordinal sources.now.second sources.now.scope select.now) ≡ Ok t) }
+    ensures err { IfErr result (λ e. (e ≡ Refusal.OutOfMemory) ⊎ (as_query (checked sources.now.ordinal sources.now.second sources.now.scope select.now) ≡ Err e)) }
 {
+    let scope = &sources.scope;
     if names_unknown_column(scope, select) {
         return Err(Refusal::UnknownColumn);
     }
     if is_not_supported(scope, select) {
         return Err(Refusal::NotSupported);
     }
-    let query = query_over(alloc, hashing, ordinal, second, scope, select)?;
-    match late_refusal(alloc, scope, &query) {
-        None => Ok(Typed::Select(query)),
-        Some(refusal) => Err(refusal),
+    let items = resolve_list(alloc, scope, &select.list)?;
+    let qualified = qualified_in(alloc, &select.list)?;
+    let group_by = resolve_columns(alloc, scope, select.group_by.as_slice())?;
+    let order_by = resolve_keys(alloc, scope, select.order_by.as_slice())?;
+    let filter = match resolve_filter(alloc, scope, &select.filter) {
+        Ok(filter) => filter,
+        Err(refusal) => return Err(refusal),
+    };
+    let query = Query {
+        table: sources.ordinal,
+        join: join_over(scope, sources.second, &select.join),
+        items,
+        qualified,
+        filter,
+        group_by: GroupBy::new(group_by, hashing.copy()),
+        order_by,
+        limit: select.limit,
+    };
+    if let Some(refusal) = late_refusal(alloc, scope, &query) {
+        return Err(refusal);
     }
+    Ok(Typed::Select(query))
 }
 
-// A query of two tables.
-fn resolve_both(
-    alloc: Global,
-    hashing: &Hashing,
+/// The tables of a query: the ordinal of the first, that of the second, if there is one, and their columns.
+#[derive(Drop)]
+struct Sources<'s> {
     ordinal: usize,
-    second: usize,
-    table: &Table,
-    other: &Table,
-    select: &Select,
-) -> Result<Typed, Refusal>
-    ensures ok { IfOk result (λ t. as_query (checked ordinal (Some second) (both_of table.now other.now) select.now) ≡ Ok t) }
-    ensures err { IfErr result (λ e. (e ≡ Refusal.OutOfMemory) ⊎ (as_query (checked ordinal (Some second) (both_of table.now other.now) select.now) ≡ Err e)) }
-{
-    let scope = Scope::of_both(table, other);
-    resolve_over(alloc, hashing, ordinal, Some(second), &scope, select)
+    second: Option<usize>,
+    scope: Scope<'s>,
 }
 
-// Resolves a join whose second table is given by its ordinal.
-fn resolve_alongside(
-    alloc: Global,
-    schema: &VSchema,
+// The tables of a join whose second table is given by its ordinal, if it is there.
+fn sources_alongside<'s>(
+    schema: &'s VSchema,
     ordinal: usize,
     second: usize,
-    table: &Table,
+    table: &'s Table,
     select: &Select,
-) -> Result<Typed, Refusal>
-    ensures ok { IfOk result (λ t. as_query (checked_pair select.now ordinal second table.now (slice_get schema.now.tables second)) ≡ Ok t) }
-    ensures err { IfErr result (λ e. (e ≡ Refusal.OutOfMemory) ⊎ (as_query (checked_pair select.now ordinal second table.now (slice_get schema.now.tables second)) ≡ Err e)) }
+) -> Option<Sources<'s>>
+    ensures some { IfSome result (λ f. checked_pair select.now ordinal second table.now (slice_get schema.now.tables second) ≡ checked f.ordinal f.second f.scope select.now) }
+    ensures none { IfNone result (checked_pair select.now ordinal second table.now (slice_get schema.now.tables second) ≡ Err Refusal.UnknownTable) }
 {
     match schema.tables.as_slice().get(second) {
-        Some(other) => {
-            let hashing = schema.tables.hashing();
-            resolve_both(alloc, hashing, ordinal, second, table, other, select)
-        }
-        None => Err(Refusal::UnknownTable),
+        Some(other) => Some(Sources {
+            ordinal,
+            second: Some(second),
+            scope: Scope::of_both(table, other),
+        }),
+        None => None,
     }
 }
 
-// Resolves a join whose second table is given by its name.
-fn resolve_pair(
-    alloc: Global,
-    schema: &VSchema,
+// The tables of a join whose second table is given by its name, if it is there.
+fn sources_pair<'s>(
+    schema: &'s VSchema,
     ordinal: usize,
-    table: &Table,
+    table: &'s Table,
     name: &Name,
     select: &Select,
-) -> Result<Typed, Refusal>
-    ensures ok { IfOk result (λ t. as_query (checked_second schema.now select.now ordinal table.now (table_ordinal schema.now name.now)) ≡ Ok t) }
-    ensures err { IfErr result (λ e. (e ≡ Refusal.OutOfMemory) ⊎ (as_query (checked_second schema.now select.now ordinal table.now (table_ordinal schema.now name.now)) ≡ Err e)) }
+) -> Option<Sources<'s>>
+    ensures some { IfSome result (λ f. checked_second schema.now select.now ordinal table.now (table_ordinal schema.now name.now) ≡ checked f.ordinal f.second f.scope select.now) }
+    ensures none { IfNone result (checked_second schema.now select.now ordinal table.now (table_ordinal schema.now name.now) ≡ Err Refusal.UnknownTable) }
 {
     match table_ordinal(schema, name) {
-        Some(second) => resolve_alongside(alloc, schema, ordinal, second, table, select),
-        None => Err(Refusal::UnknownTable),
+        Some(second) => sources_alongside(schema, ordinal, second, table, select),
+        None => None,
     }
 }
 
-// A query of one table.
-fn resolve_alone(
-    alloc: Global,
-    hashing: &Hashing,
+// The tables of a query whose first table is this, if they are there.
+fn sources_with<'s>(
+    schema: &'s VSchema,
     ordinal: usize,
-    table: &Table,
+    table: &'s Table,
     select: &Select,
-) -> Result<Typed, Refusal>
-    ensures ok { IfOk result (λ t. as_query (checked ordinal None (only table.now) select.now) ≡ Ok t) }
-    ensures err { IfErr result (λ e. (e ≡ Refusal.OutOfMemory) ⊎ (as_query (checked ordinal None (only table.now) select.now) ≡ Err e)) }
-{
-    let scope = Scope::of(table);
-    resolve_over(alloc, hashing, ordinal, None, &scope, select)
-}
-
-fn resolve_with(
-    alloc: Global,
-    schema: &VSchema,
-    ordinal: usize,
-    table: &Table,
-    select: &Select,
-) -> Result<Typed, Refusal>
-    ensures ok { IfOk result (λ t. as_query (checked_with schema.now select.now ordinal table.now select.now.join) ≡ Ok t) }
-    ensures err { IfErr result (λ e. (e ≡ Refusal.OutOfMemory) ⊎ (as_query (checked_with schema.now select.now ordinal table.now select.now.join) ≡ Err e)) }
+) -> Option<Sources<'s>>
+    ensures some { IfSome result (λ f. checked_with schema.now select.now ordinal table.now select.now.join ≡ checked f.ordinal f.second f.scope select.now) }
+    ensures none { IfNone result (checked_with schema.now select.now ordinal table.now select.now.join ≡ Err Refusal.UnknownTable) }
 {
     match &select.join {
-        Some(join) => resolve_pair(alloc, schema, ordinal, table, &join.table, select),
-        None => resolve_alone(alloc, schema.tables.hashing(), ordinal, table, select),
+        Some(join) => sources_pair(schema, ordinal, table, &join.table, select),
+        None => Some(Sources {
+            ordinal,
+            second: None,
+            scope: Scope::of(table),
+        }),
     }
+}
+
+// The tables of a query, if they are there.
+fn sources_of<'s>(schema: &'s VSchema, select: &Select) -> Option<Sources<'s>>
+    ensures some { IfSome result (λ f. typed_select schema.now select.now ≡ checked f.ordinal f.second f.scope select.now) }
+    ensures none { IfNone result (typed_select schema.now select.now ≡ Err Refusal.UnknownTable) }
+{
+    let ordinal = table_ordinal(schema, &select.table)?;
+    let table = schema.tables.as_slice().get(ordinal)?;
+    sources_with(schema, ordinal, table, select)
 }
 
 fn resolve_select(alloc: Global, schema: &VSchema, select: &Select) -> Result<Typed, Refusal>
     ensures ok { IfOk result (λ t. as_query (typed_select schema.now select.now) ≡ Ok t) }
     ensures err { IfErr result (λ e. (e ≡ Refusal.OutOfMemory) ⊎ (as_query (typed_select schema.now select.now) ≡ Err e)) }
 {
-    let Some(ordinal) = table_ordinal(schema, &select.table) else {
+    let Some(sources) = sources_of(schema, select) else {
         return Err(Refusal::UnknownTable);
     };
-    match schema.tables.as_slice().get(ordinal) {
-        Some(table) => resolve_with(alloc, schema, ordinal, table, select),
-        None => Err(Refusal::UnknownTable),
-    }
+    resolve_over(alloc, schema.tables.hashing(), &sources, select)
 }
 
 impl VSchema {
     ghost use Rattle.std.specs.Prelude.{◌≡◌, ◌⊎◌, IfOk, IfErr, Ok, Err};
     ghost use Rattle.vschema.specs.TypedStatement.{typed_statement};
-
-    fn typed(&self, alloc: Global, statement: &Statement) -> Result<Typed, Refusal>
-        ensures ok { IfOk result (λ typed. typed_statement self.now statement.now ≡ Ok typed) }
-        ensures err { IfErr result (λ e. (e ≡ Refusal.OutOfMemory) ⊎ (typed_statement self.now statement.now ≡ Err e)) }
-    {
-        match statement {
-            Statement::Select(select) => resolve_select(alloc, self, select),
-            Statement::Insert(insert) => resolve_insert(alloc, self, insert),
-            Statement::Update(update) => resolve_update(alloc, self, update),
-            Statement::Delete(delete) => resolve_delete(alloc, self, delete),
-            Statement::Begin => Ok(Typed::Begin),
-            Statement::Commit => Ok(Typed::Commit),
-            Statement::Rollback => Ok(Typed::Rollback),
-            Statement::SetNames(_) => Ok(Typed::SetNames),
-        }
-    }
 
     // Promise: A statement of the grammar is its typed statement, or the first refusal that applies: F4 (of a join the first table before the
     // second), F18, F17, F5 (also a bare name that both tables of a join have), F3 (also a join that shards can't make by themselves), F19,
@@ -549,6 +509,15 @@ impl VSchema {
         ensures ok { IfOk result (λ typed. typed_statement self.now statement ≡ Ok typed) }
         ensures err { IfErr result (λ e. (e ≡ Refusal.OutOfMemory) ⊎ (typed_statement self.now statement ≡ Err e)) }
     {
-        self.typed(alloc, &statement)
+        match statement {
+            Statement::Select(select) => return resolve_select(alloc, self, &select),
+            Statement::Insert(insert) => return resolve_insert(alloc, self, insert),
+            Statement::Update(update) => return resolve_update(alloc, self, &update),
+            Statement::Delete(delete) => return resolve_delete(alloc, self, &delete),
+            Statement::Begin => Ok(Typed::Begin),
+            Statement::Commit => Ok(Typed::Commit),
+            Statement::Rollback => Ok(Typed::Rollback),
+            Statement::SetNames(_) => Ok(Typed::SetNames),
+        }
     }
 }

@@ -1,5 +1,6 @@
 //! INSERT, UPDATE and DELETE with their names resolved, or the refusal of the first check that fails.
-ghost use Rattle.std.specs.Prelude.{◌≡◌, ◌⊎◌, ◌==◌, IfOk, IfErr, IfSome, map, option_map, false, Ok, Err};
+ghost use Rattle.std.specs.Prelude.{◌≡◌, ◌⊎◌, ◌==◌, ℕ, IsTrue, IfOk, IfErr, IfSome, map, option_map, false, Ok, Err};
+ghost use Rattle.vschema.specs.declared.changes.Write.TheVariants as written;
 ghost use Rattle.vschema.specs.Schema.{ordinal_from};
 ghost use Rattle.vschema.specs.Resolved.{ordinals_from};
 ghost use Rattle.vschema.specs.WriteChecks.{has_twice, sets_twice, listed_names, insert_ordinals, has_wrong_count, insert_names_unknown, inserted_values, has_other_kind, leaves_out_column, assigned_values, update_names_unknown, sets_key, update_is_not_supported};
@@ -210,47 +211,69 @@ fn whole_rows(
     Ok(whole)
 }
 
-// An INSERT that names no column twice.
-fn insert_at(
-    alloc: Global,
-    ordinal: usize,
-    table: &Table,
-    insert: &Insert,
-    ordinals: &[usize],
-) -> Result<Typed, Refusal>
-    requires ordinals { ordinals.now ≡ insert_ordinals table.now insert.now.columns }
-    requires once { has_twice (listed_names insert.now.columns) ≡ false }
-    ensures ok { IfOk result (λ t. as_write (unless_refused (insert_checks table.now insert.now) (insert_over ordinal table.now insert.now)) ≡ Ok t) }
-    ensures err { IfErr result (λ e. (e ≡ Refusal.OutOfMemory)
-        ⊎ (as_write (unless_refused (insert_checks table.now insert.now) (insert_over ordinal table.now insert.now)) ≡ Err e)) }
+// Whether these are all ordinals of the table, in their order: then a row of INSERT is whole as it is.
+fn are_all_in_order(table: &Table, ordinals: &[usize]) -> bool
+    ensures { IsTrue result → ordinals.now ≡ ordinals_from 0 table.now.columns }
 {
-    if let Some(refusal) = insert_refusal(table, insert, ordinals) {
+    match few_ordinals(table) {
+        Some(all) => all == ordinals,
+        None => false,
+    }
+}
+
+// The rows of an INSERT that names no column twice, each whole, or its refusal.
+fn rows_at(
+    alloc: Global,
+    table: &Table,
+    insert: Insert,
+    ordinals: &[usize],
+) -> Result<Items<Row>, Refusal>
+    requires ordinals { ordinals.now ≡ insert_ordinals table.now insert.columns }
+    requires once { has_twice (listed_names insert.columns) ≡ false }
+    ensures ok { IfOk result (λ rows. (n : ℕ) → unless_refused (insert_checks table.now insert) (insert_over n table.now insert) ≡ Ok (written.Insert n rows)) }
+    ensures err { IfErr result (λ e. (e ≡ Refusal.OutOfMemory) ⊎ ((n : ℕ) → unless_refused (insert_checks table.now insert) (insert_over n table.now insert) ≡ Err e)) }
+{
+    if let Some(refusal) = insert_refusal(table, &insert, ordinals) {
         return Err(refusal);
     }
-    let rows = whole_rows(alloc, table, ordinals, insert.rows.as_slice())?;
-    Ok(Typed::Write(Write::Insert(ordinal, rows)))
+    if are_all_in_order(table, ordinals) {
+        return Ok(insert.rows);
+    }
+    whole_rows(alloc, table, ordinals, insert.rows.as_slice())
+}
+
+// The rows of an INSERT, each whole, or its refusal.
+fn inserted_rows(alloc: Global, table: &Table, insert: Insert) -> Result<Items<Row>, Refusal>
+    ensures ok { IfOk result (λ rows. (n : ℕ) → unless_refused (insert_checks table.now insert) (insert_over n table.now insert) ≡ Ok (written.Insert n rows)) }
+    ensures err { IfErr result (λ e. (e ≡ Refusal.OutOfMemory) ⊎ ((n : ℕ) → unless_refused (insert_checks table.now insert) (insert_over n table.now insert) ≡ Err e)) }
+{
+    if has_twice(alloc, names_of(&insert.columns))? {
+        return Err(Refusal::ColumnNamedTwice);
+    }
+    match ordinals_at_once(table, &insert.columns) {
+        Some(ordinals) => rows_at(alloc, table, insert, ordinals),
+        None => {
+            let ordinals = insert_ordinals(alloc, table, &insert.columns)?;
+            rows_at(alloc, table, insert, ordinals.as_slice())
+        }
+    }
 }
 
 fn insert_into(
     alloc: Global,
     ordinal: usize,
     table: &Table,
-    insert: &Insert,
+    insert: Insert,
 ) -> Result<Typed, Refusal>
-    ensures ok { IfOk result (λ t. as_write (unless_refused (insert_checks table.now insert.now) (insert_over ordinal table.now insert.now)) ≡ Ok t) }
+    ensures ok { IfOk result (λ t. as_write (unless_refused (insert_checks table.now insert) (insert_over ordinal table.now insert)) ≡ Ok t) }
     ensures err { IfErr result (λ e. (e ≡ Refusal.OutOfMemory)
-        ⊎ (as_write (unless_refused (insert_checks table.now insert.now) (insert_over ordinal table.now insert.now)) ≡ Err e)) }
+        ⊎ (as_write (unless_refused (insert_checks table.now insert) (insert_over ordinal table.now insert)) ≡ Err e)) }
 {
-    if has_twice(alloc, names_of(&insert.columns))? {
-        return Err(Refusal::ColumnNamedTwice);
-    }
-    match ordinals_at_once(table, &insert.columns) {
-        Some(ordinals) => insert_at(alloc, ordinal, table, insert, ordinals),
-        None => {
-            let ordinals = insert_ordinals(alloc, table, &insert.columns)?;
-            insert_at(alloc, ordinal, table, insert, ordinals.as_slice())
-        }
-    }
+    let rows = match inserted_rows(alloc, table, insert) {
+        Ok(rows) => rows,
+        Err(refusal) => return Err(refusal),
+    };
+    Ok(Typed::Write(Write::Insert(ordinal, rows)))
 }
 
 fn update_names_unknown(table: &Table, update: &Update) -> bool
@@ -382,7 +405,10 @@ fn update_of(
     if let Some(refusal) = update_refusal(table, update, assignments.as_slice()) {
         return Err(refusal);
     }
-    let filter = resolve_filter(alloc, &Scope::of(table), &update.filter)?;
+    let filter = match resolve_filter(alloc, &Scope::of(table), &update.filter) {
+        Ok(filter) => filter,
+        Err(refusal) => return Err(refusal),
+    };
     Ok(Typed::Write(Write::Update(ordinal, assignments, filter)))
 }
 
@@ -406,18 +432,18 @@ fn delete_from(
     Ok(Typed::Write(Write::Delete(ordinal, filter)))
 }
 
-/// What an INSERT means, or the refusal of the first check that fails.
-pub fn resolve_insert(alloc: Global, schema: &VSchema, insert: &Insert) -> Result<Typed, Refusal>
-    ensures ok { IfOk result (λ t. as_write (typed_insert schema.now insert.now) ≡ Ok t) }
-    ensures err { IfErr result (λ e. (e ≡ Refusal.OutOfMemory) ⊎ (as_write (typed_insert schema.now insert.now) ≡ Err e)) }
+/// What an INSERT means, or the refusal of the first check that fails. Its rows are moved if they are whole as they are.
+pub fn resolve_insert(alloc: Global, schema: &VSchema, insert: Insert) -> Result<Typed, Refusal>
+    ensures ok { IfOk result (λ t. as_write (typed_insert schema.now insert) ≡ Ok t) }
+    ensures err { IfErr result (λ e. (e ≡ Refusal.OutOfMemory) ⊎ (as_write (typed_insert schema.now insert) ≡ Err e)) }
 {
     let Some(ordinal) = table_ordinal(schema, &insert.table) else {
         return Err(Refusal::UnknownTable);
     };
-    match schema.tables.as_slice().get(ordinal) {
-        Some(table) => insert_into(alloc, ordinal, table, insert),
-        None => Err(Refusal::UnknownTable),
-    }
+    let Some(table) = schema.tables.as_slice().get(ordinal) else {
+        return Err(Refusal::UnknownTable);
+    };
+    insert_into(alloc, ordinal, table, insert)
 }
 
 /// What an UPDATE means, or the refusal of the first check that fails.
@@ -428,10 +454,10 @@ pub fn resolve_update(alloc: Global, schema: &VSchema, update: &Update) -> Resul
     let Some(ordinal) = table_ordinal(schema, &update.table) else {
         return Err(Refusal::UnknownTable);
     };
-    match schema.tables.as_slice().get(ordinal) {
-        Some(table) => update_of(alloc, ordinal, table, update),
-        None => Err(Refusal::UnknownTable),
-    }
+    let Some(table) = schema.tables.as_slice().get(ordinal) else {
+        return Err(Refusal::UnknownTable);
+    };
+    update_of(alloc, ordinal, table, update)
 }
 
 /// What a DELETE means, or the refusal of the first check that fails.
@@ -442,8 +468,8 @@ pub fn resolve_delete(alloc: Global, schema: &VSchema, delete: &Delete) -> Resul
     let Some(ordinal) = table_ordinal(schema, &delete.table) else {
         return Err(Refusal::UnknownTable);
     };
-    match schema.tables.as_slice().get(ordinal) {
-        Some(table) => delete_from(alloc, ordinal, table, delete),
-        None => Err(Refusal::UnknownTable),
-    }
+    let Some(table) = schema.tables.as_slice().get(ordinal) else {
+        return Err(Refusal::UnknownTable);
+    };
+    delete_from(alloc, ordinal, table, delete)
 }
