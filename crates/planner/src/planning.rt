@@ -194,7 +194,7 @@ pub fn query_route(alloc: Global, schema: &VSchema, query: &Query) -> Result<Rou
 // of the ranges; a shard that its route skips holds no row or pair that the query keeps; and without aggregates each piece's answer is in
 // the order of the finish's keys
 /// The plan of a query. Refuses only for want of memory.
-pub fn plan(alloc: Global, schema: &VSchema, query: Query) -> Result<Plan, Refusal>
+pub fn plan(alloc: Global, schema: &VSchema, mut query: Query) -> Result<Plan, Refusal>
     ensures exact { IfOk result (λ p. p ≡ planned (table_at schema.now query.table) query) }
     ensures right { IfOk result (IsRightPlan schema.now query) }
     ensures skips { IfOk result (SkipsNothing schema.now query) }
@@ -205,11 +205,10 @@ pub fn plan(alloc: Global, schema: &VSchema, query: Query) -> Result<Plan, Refus
     let finish = finish_of(alloc, &query)?;
     let items = copy_items(alloc, query.items.as_slice())?;
     let qualified = Items::from_slice(alloc, query.qualified.as_slice())?;
-    let mut piece = query;
-    push(alloc, &mut piece)?;
+    push(alloc, &mut query)?;
     Ok(Plan {
         route,
-        piece,
+        piece: query,
         finish,
         items,
         qualified,
