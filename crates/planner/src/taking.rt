@@ -1,4 +1,4 @@
-ghost use Rattle.std.specs.Prelude.{◌≡◌, ◌&&◌, [], List, IsTrue, false, IfOk, IfErr, IfNone, IfSome};
+ghost use Rattle.std.specs.Prelude.{◌≡◌, ◌&&◌, [], List, IsTrue, false, Some, IfOk, IfErr, IfNone, IfSome};
 ghost use Rattle.std.specs.List.{list_any};
 ghost use Rattle.keyrange.specs.declared.KeyRange.{KeyRange};
 ghost use Rattle.keyrange.specs.Ranges.{has_id};
@@ -14,7 +14,7 @@ use crate::spans::{Span, misses};
 use keyrange::KeyRange;
 use std::alloc::Global;
 use vindex::Ksid;
-use vschema::Table;
+use vschema::{ColumnVindex, Table};
 use vt_value::{Refusal, Value};
 
 /// Whether the keyspace id of a value of the vindex column lies in the range.
@@ -83,14 +83,26 @@ pub fn takes(table: &Table, route: &Route, range: &KeyRange) -> bool
     }
 }
 
+// The keyspace id of a value that is the only one, if it has one.
+fn lone_id<'r>(table: &Table, vindex: ColumnVindex, values: &'r InValues) -> Option<Ksid<'r>>
+    requires vindex { table.now.vindex ≡ Some vindex }
+    ensures { IfSome result (λ id. (range : KeyRange) → list_any (λ v. has_id range (id_of table.now v)) values.now ≡ has_id range (ksid_bytes id)) }
+{
+    match values.as_slice() {
+        [member] => vindex.vindex.map(&member.value),
+        _ => None,
+    }
+}
+
 /// The keyspace id of the one value that the route needs, made once for all shards; `None` where it needs another number of values, and
 /// where that value has no id of its own.
 pub fn single_id<'r>(table: &Table, route: &'r Route) -> Option<Ksid<'r>>
     ensures id { IfSome result (λ id. (range : KeyRange) → takes table.now route.now range ≡ has_id range (ksid_bytes id)) }
     ensures none { IfNone result ((value : Value) → route.now ≡ Route.EqualUnique value → id_of table.now value ≡ []) }
 {
-    match (&table.vindex, route) {
+    match (table.vindex, route) {
         (Some(vindex), Route::EqualUnique(value)) => vindex.vindex.map(value),
+        (Some(vindex), Route::In(values)) => lone_id(table, vindex, values),
         _ => None,
     }
 }
