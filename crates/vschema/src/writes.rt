@@ -259,23 +259,6 @@ fn inserted_rows(alloc: Global, table: &Table, insert: Insert) -> Result<Items<R
     }
 }
 
-fn insert_into(
-    alloc: Global,
-    ordinal: usize,
-    table: &Table,
-    insert: Insert,
-) -> Result<Typed, Refusal>
-    ensures ok { IfOk result (λ t. as_write (unless_refused (insert_checks table.now insert) (insert_over ordinal table.now insert)) ≡ Ok t) }
-    ensures err { IfErr result (λ e. (e ≡ Refusal.OutOfMemory)
-        ⊎ (as_write (unless_refused (insert_checks table.now insert) (insert_over ordinal table.now insert)) ≡ Err e)) }
-{
-    let rows = match inserted_rows(alloc, table, insert) {
-        Ok(rows) => rows,
-        Err(refusal) => return Err(refusal),
-    };
-    Ok(Typed::Write(Write::Insert(ordinal, rows)))
-}
-
 fn update_names_unknown(table: &Table, update: &Update) -> bool
     ensures { result ≡ update_names_unknown table.now update.now }
 {
@@ -443,7 +426,11 @@ pub fn resolve_insert(alloc: Global, schema: &VSchema, insert: Insert) -> Result
     let Some(table) = schema.tables.as_slice().get(ordinal) else {
         return Err(Refusal::UnknownTable);
     };
-    insert_into(alloc, ordinal, table, insert)
+    let rows = match inserted_rows(alloc, table, insert) {
+        Ok(rows) => rows,
+        Err(refusal) => return Err(refusal),
+    };
+    Ok(Typed::Write(Write::Insert(ordinal, rows)))
 }
 
 /// What an UPDATE means, or the refusal of the first check that fails.
