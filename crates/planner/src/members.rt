@@ -1,5 +1,5 @@
 //! The values of an IN, each with its keyspace id, which is made once for all ranges.
-ghost use Rattle.std.specs.Prelude.{◌≡◌, ◌++◌, ◌∷◌, [], ◌↔◌, map, IsTrue, IfSome, OnOk};
+ghost use Rattle.std.specs.Prelude.{◌≡◌, ◌++◌, ◌∷◌, [], ◌↔◌, map, IsTrue, IfOk, IfSome, OnOk};
 ghost use Rattle.planner.specs.inner.Spans.{AllIn};
 ghost use Rattle.planner.specs.KnownIds.{IsIdOf};
 
@@ -70,6 +70,16 @@ impl InValues {
             list: Vec::new(alloc),
             span: None,
         }
+    }
+
+    /// No values, with room for so many. Refuses only for want of memory.
+    pub(crate) fn with_capacity(alloc: Global, capacity: usize) -> Result<InValues, AllocError>
+        ensures { IfOk result (λ values. values ≡ []) }
+    {
+        Ok(InValues {
+            list: Vec::with_capacity(alloc, capacity)?,
+            span: None,
+        })
     }
 
     /// Adds a value of the column that this vindex is on. Refuses only for want of memory.

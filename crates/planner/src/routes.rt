@@ -142,7 +142,7 @@ fn values_at(alloc: Global, rows: &[Row], vindex: ColumnVindex) -> Result<InValu
     ensures ok { IfOk result (λ list. list ≡ map (λ row. value_at row vindex.column) rows.now) }
     ensures err { IfErr result (λ e. e ≡ Refusal.OutOfMemory) }
 {
-    let mut list = InValues::new(alloc);
+    let mut list = InValues::with_capacity(alloc, rows.len())?;
     for row in rows {
         list.push(vindex.vindex, value_at(alloc, row, vindex.column)?)?;
     }
