@@ -8,8 +8,7 @@ use Rattle.sql_tree.specs.declared.Item.TheVariants.{Column, CountRows, Count, S
 use Rattle.sql_tree.specs.declared.Key.{Key}
 use Rattle.vschema.specs.declared.first_ordinals.FirstOrdinals.{FirstOrdinals}
 use Rattle.vschema.specs.Schema.{ordinal_from}
-use Rattle.vschema.specs.declared.schema.Query.{Query}
-use Rattle.vschema.specs.Checks.{has_number, is_aggregated, is_ungrouped, shows_ungrouped}
+use Rattle.vschema.specs.Checks.{has_number, is_ungrouped}
 use Rattle.vschema.specs.FirstOrdinals.{first_ordinal}
 use Rattle.vschema.specs.inner.FirstOrdinals.{shows_other}
 
@@ -50,8 +49,3 @@ pub others : (ordinals : FirstOrdinals) (ns : List ℕ) → AreOrdinals ordinals
     ≡ list_any (is_ungrouped ns) items || list_any (λ k. not (has_number ns k.column)) keys
 others ordinals ns are items keys = λ j.
     list_any (λ i. other_shown ordinals ns are i j) items || list_any (λ k. (ap is_none (are k.column) ∙ unplaced ns k.column 0) j) keys
-
--- in an aggregated query
-pub shown_where : (q : Query) → is_aggregated q ≡ true
-    → list_any (is_ungrouped q.group_by) q.items || list_any (λ k. not (has_number q.group_by k.column)) q.order_by ≡ shows_ungrouped q
-shown_where q grouped = rw grouped refl

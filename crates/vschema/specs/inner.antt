@@ -1,2 +1,3 @@
 pub mod FirstOrdinals
+pub mod LateChecks
 pub mod StoredChecks

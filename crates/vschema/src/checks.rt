@@ -3,7 +3,8 @@ ghost use Rattle.std.specs.Prelude.{◌≡◌, ◌||◌, map, is_none, IfOk};
 ghost use Rattle.std.specs.List.{list_any};
 ghost use Rattle.vschema.specs.Checks.{is_unknown, is_unnamed, join_names_unknown, operand_is_unknown, condition_names_unknown, filter_has, item_names_unknown, list_names_unknown, names_unknown_column};
 ghost use Rattle.vschema.specs.Checks.{is_text_type, value_is_text, column_is_text, operand_is_text, differ, condition_mixes, is_text_sum, sums_text, select_is_not_supported};
-ghost use Rattle.vschema.specs.Checks.{has_number, is_aggregate, shows_ungrouped};
+ghost use Rattle.vschema.specs.Checks.{has_number, is_aggregate};
+ghost use Rattle.vschema.specs.inner.LateChecks.{aggregates, shows_others};
 ghost use Rattle.vschema.specs.FirstOrdinals.{first_ordinal};
 ghost use Rattle.vschema.specs.inner.FirstOrdinals.{shows_other};
 
@@ -304,20 +305,28 @@ fn some_key_ungrouped(grouped: &FirstOrdinals, keys: &[Key<usize>]) -> bool
     keys.iter().any(|key| grouped.get(key.column).is_none())
 }
 
-fn has_ungrouped(grouped: &FirstOrdinals, query: &Query) -> bool
-    ensures { result ≡ list_any (shows_other grouped.now) query.now.items || list_any (λ k. is_none (first_ordinal grouped.now k.column)) query.now.order_by }
+fn has_ungrouped(grouped: &FirstOrdinals, items: &[Item<usize>], order_by: &[Key<usize>]) -> bool
+    ensures { result ≡ list_any (shows_other grouped.now) items.now || list_any (λ k. is_none (first_ordinal grouped.now k.column)) order_by.now }
 {
-    some_item_ungrouped(grouped, query.items.as_slice())
-        || some_key_ungrouped(grouped, query.order_by.as_slice())
+    some_item_ungrouped(grouped, items) || some_key_ungrouped(grouped, order_by)
 }
 
-/// Whether an aggregated query shows a plain column, or orders by one, that isn't in its GROUP BY. Refuses only for want of memory.
-pub fn shows_ungrouped(alloc: Global, query: &Query) -> Result<bool, AllocError>
-    ensures { IfOk result (λ shows. shows ≡ shows_ungrouped query.now) }
+/// Whether a plain column is shown, or ordered by, that isn't in GROUP BY. Refuses only for want of memory.
+pub fn shows_others(
+    alloc: Global,
+    items: &[Item<usize>],
+    group_by: &[usize],
+    order_by: &[Key<usize>],
+) -> Result<bool, AllocError>
+    ensures { IfOk result (λ shows. shows ≡ shows_others items.now group_by.now order_by.now) }
 {
-    if !query.is_aggregated() {
-        return Ok(false);
-    }
-    let grouped = FirstOrdinals::of(alloc, query.group_by.as_slice())?;
-    Ok(has_ungrouped(&grouped, query))
+    let grouped = FirstOrdinals::of(alloc, group_by)?;
+    Ok(has_ungrouped(&grouped, items, order_by))
+}
+
+/// Whether a query with these items and columns of GROUP BY is aggregated.
+pub fn aggregates(items: &[Item<usize>], group_by: &[usize]) -> bool
+    ensures { result ≡ aggregates items.now group_by.now }
+{
+    some_aggregate(items) || !group_by.is_empty()
 }

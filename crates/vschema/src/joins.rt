@@ -1,9 +1,10 @@
 //! Which joins are taken.
 ghost use Rattle.std.specs.Prelude.{◌≡◌, length};
-ghost use Rattle.vschema.specs.Joins.{same_vindex, takes_keys, takes_columns, is_refused, join_is_refused};
+ghost use Rattle.vschema.specs.Joins.{same_vindex, takes_keys, takes_columns};
+ghost use Rattle.vschema.specs.inner.LateChecks.{refuses_any, refuses_join};
 
 use crate::checks::{column_is_text, differ};
-use crate::schema::{ColumnVindex, Query, Table};
+use crate::schema::{ColumnVindex, Join, Table};
 use crate::scope::{Scope, second_of, table_of, width};
 use vindex::AnyVindex;
 
@@ -50,18 +51,18 @@ fn takes_columns(scope: &Scope, table: &Table, a: usize, b: usize) -> bool
         && takes_keys(scope, a, b, table_of(scope).vindex, table.vindex)
 }
 
-/// Whether the query's join isn't taken: of a table with itself, of an aggregated query, or of columns by which its pairs may lie on two
+/// Whether a query's join isn't taken: of a table with itself, of an aggregated query, or of columns by which its pairs may lie on two
 /// shards, or that differ in kind.
-pub fn join_is_refused(scope: &Scope, query: &Query) -> bool
-    ensures { result ≡ join_is_refused scope.now query.now }
+pub fn join_is_refused(scope: &Scope, ordinal: usize, join: Option<Join>, aggregated: bool) -> bool
+    ensures { result ≡ refuses_join scope.now ordinal aggregated join }
 {
-    let Some(join) = query.join else {
+    let Some(join) = join else {
         return false;
     };
     match second_of(scope) {
         Some(table) => {
-            query.table == join.table
-                || query.is_aggregated()
+            ordinal == join.table
+                || aggregated
                 || !takes_columns(scope, table, join.first, join.second)
         }
         None => true,

@@ -1,13 +1,13 @@
 //! Statements with their names resolved: tables and columns become ordinals, or the first refusal that applies is returned.
 ghost use Rattle.std.specs.Prelude.{◌≡◌, ◌⊎◌, IfOk, IfErr, IfSome, IfNone, map, slice_get, option_map, Ok, Err, Some, None, true, false};
-ghost use Rattle.vschema.specs.Checks.{shows_ungrouped};
+ghost use Rattle.vschema.specs.inner.LateChecks.{shows_others};
 ghost use Rattle.vschema.specs.Scopes.{only, both_of, scope_columns, ordinal_in};
-ghost use Rattle.vschema.specs.Joins.{left_ordinal, right_ordinal, resolved_join, join_is_refused};
+ghost use Rattle.vschema.specs.Joins.{left_ordinal, right_ordinal, resolved_join};
 ghost use Rattle.vschema.specs.Schema.{table_ordinal};
 ghost use Rattle.vschema.specs.Resolved.{ordinal, ordinals_from, resolved_operand, resolved_condition, resolved_item, resolved_list, is_qualified, qualified_in, resolved_key};
 ghost use Rattle.vschema.specs.TypedStatement.{as_query, join_over, over, checked, checked_pair, checked_second, checked_with, typed_select};
 
-use crate::checks::{is_not_supported, names_unknown_column, shows_ungrouped};
+use crate::checks::{aggregates, is_not_supported, names_unknown_column, shows_others};
 use crate::group_by::GroupBy;
 use crate::hashing::Hashing;
 use crate::joins::join_is_refused;
@@ -343,27 +343,21 @@ fn join_over(scope: &Scope, second: Option<usize>, join: &Option<JoinOn>) -> Opt
     }
 }
 
-fn grouping_refusal(alloc: Global, query: &Query) -> Option<Refusal>
-    ensures none { IfNone result (shows_ungrouped query.now ≡ false) }
-    ensures some { IfSome result (λ r. (r ≡ Refusal.OutOfMemory) ⊎ ((r ≡ Refusal.NotGrouped) × (shows_ungrouped query.now ≡ true))) }
+// Why an aggregated query isn't taken.
+fn grouping_refusal(
+    alloc: Global,
+    items: &[Item<usize>],
+    group_by: &[usize],
+    order_by: &[Key<usize>],
+) -> Option<Refusal>
+    ensures none { IfNone result (shows_others items.now group_by.now order_by.now ≡ false) }
+    ensures some { IfSome result (λ r. (r ≡ Refusal.OutOfMemory) ⊎ ((r ≡ Refusal.NotGrouped) × (shows_others items.now group_by.now order_by.now ≡ true))) }
 {
-    match shows_ungrouped(alloc, query) {
+    match shows_others(alloc, items, group_by, order_by) {
         Ok(false) => None,
         Ok(true) => Some(Refusal::NotGrouped),
         Err(failed) => Some(Refusal::from(failed)),
     }
-}
-
-// Why the query isn't taken: its join, or its groups.
-fn late_refusal(alloc: Global, scope: &Scope, query: &Query) -> Option<Refusal>
-    ensures none { IfNone result ((join_is_refused scope.now query.now ≡ false) × (shows_ungrouped query.now ≡ false)) }
-    ensures some { IfSome result (λ r. (r ≡ Refusal.OutOfMemory) ⊎ (((r ≡ Refusal.NotSupported) × (join_is_refused scope.now query.now ≡ true))
-        ⊎ ((r ≡ Refusal.NotGrouped) × ((join_is_refused scope.now query.now ≡ false) × (shows_ungrouped query.now ≡ true))))) }
-{
-    if join_is_refused(scope, query) {
-        return Some(Refusal::NotSupported);
-    }
-    grouping_refusal(alloc, query)
 }
 
 // A query over its tables, whose ordinals are these.
@@ -391,20 +385,31 @@ fn resolve_over(
         Ok(filter) => filter,
         Err(refusal) => return Err(refusal),
     };
-    let query = Query {
+    let join = join_over(scope, sources.second, &select.join);
+    let aggregated = aggregates(items.as_slice(), group_by.as_slice());
+    if join_is_refused(scope, sources.ordinal, join, aggregated) {
+        return Err(Refusal::NotSupported);
+    }
+    if aggregated {
+        let (items, group_by, order_by) = (
+            items.as_slice(),
+            group_by.as_slice(),
+            order_by.as_slice(),
+        );
+        if let Some(refusal) = grouping_refusal(alloc, items, group_by, order_by) {
+            return Err(refusal);
+        }
+    }
+    Ok(Typed::Select(Query {
         table: sources.ordinal,
-        join: join_over(scope, sources.second, &select.join),
+        join,
         items,
         qualified,
         filter,
         group_by: GroupBy::new(group_by, hashing.copy()),
         order_by,
         limit: select.limit,
-    };
-    if let Some(refusal) = late_refusal(alloc, scope, &query) {
-        return Err(refusal);
-    }
-    Ok(Typed::Select(query))
+    }))
 }
 
 /// The tables of a query: the ordinal of the first, that of the second, if there is one, and their columns.

@@ -13,7 +13,7 @@ returns-clause-ok c =
     let there = lent c.as_slice.result.now schema.tables n c.get.result table c.as_slice.ensures c.in-Some-get.is c.get.ensures.lookup in
     ap as_write
     (on_found schema s.table (λ m t. unless_refused (insert_checks t s) (insert_over m t s)) n table.now (sym c.table_ordinal.ensures ∙ c.in-Some.is) there
-      ∙ c.in-Ok.ensures.ok n)
+    ∙ c.in-Ok.ensures.ok n)
 
 pub returns-in-Err-clause-err : goal.returns-in-Err-clause-err
 returns-in-Err-clause-err c =
@@ -24,6 +24,6 @@ returns-in-Err-clause-err c =
     let there = lent c.as_slice.result.now schema.tables n c.get.result table c.as_slice.ensures c.in-Some-get.is c.get.ensures.lookup in
     ⊎_elim inl
     (λ told. inr (ap as_write
-      (on_found schema s.table (λ m t. unless_refused (insert_checks t s) (insert_over m t s)) n table.now (sym c.table_ordinal.ensures ∙ c.in-Some.is) there
-        ∙ told n)))
+    (on_found schema s.table (λ m t. unless_refused (insert_checks t s) (insert_over m t s)) n table.now (sym c.table_ordinal.ensures ∙ c.in-Some.is) there
+    ∙ told n)))
     c.in-Err.ensures.err
