@@ -1,13 +1,22 @@
 -- OK, EOF and ERR packets are short.
-use Rattle.std.proofs.Common.{ℕ, ◌≤◌, List, length, arith, lit≤}
+use Rattle.std.proofs.Common.{◌≡◌, ℕ, ◌+◌, ◌/◌, ◌%◌, ◌≤◌, List, ◌∷◌, length, ap, ◌∙◌, arith, lit≤}
 use Rattle.vt_value.specs.declared.refusal.Refusal.{Refusal}
 use Rattle.vt_value.specs.declared.refusal.Refusal.TheVariants.{OutOfMemory, SyntaxError, NotSupported, UnknownTable, UnknownColumn, UnknownKeyspace, AccessDenied, UnknownCommand, PacketTooLarge, PacketsOutOfOrder, BadHandshake, DuplicateKey, NullNotAllowed, NoDefaultValue, OutOfRange, TooLong, WrongValueCount, ColumnNamedTwice, NotGrouped, SeveralShards, Conflict, BufferFull, ShardMoved, ShardFull, UnknownVariable, NoKeyspace}
 use Rattle.vt_value.specs.Refusals.{state_of, message_of}
-use Rattle.mysql_packet.specs.Frames.{frame}
-use Rattle.mysql_packet.proofs.FrameLemmas.{length-frame}
+use Rattle.mysql_packet.specs.Frames.{frame, number_after}
+use Rattle.mysql_packet.proofs.FrameLemmas.{frame-short, number_after-short}
 
-pub length_short_frame : (number : ℕ) (payload : List ℕ) → length payload ≤ 60 → length (frame number payload) ≤ 64
-length_short_frame number payload short = omega (arith, length-frame number payload)
+pub short_frame : (number : ℕ) (payload : List ℕ) → length payload ≤ 60 → frame number payload ≡ length payload ∷ 0 ∷ 0 ∷ number ∷ payload
+short_frame number payload short =
+    let low : length payload % 256 ≡ length payload = omega arith in
+    let middle : length payload / 256 % 256 ≡ 0 = omega arith in
+    let high : length payload / 256 / 256 % 256 ≡ 0 = omega arith in
+    frame-short number payload (omega arith) ∙ ap (λ (x : ℕ). x ∷ length payload / 256 % 256 ∷ length payload / 256 / 256 % 256 ∷ number ∷ payload) low
+    ∙ ap (λ (x : ℕ). length payload ∷ x ∷ length payload / 256 / 256 % 256 ∷ number ∷ payload) middle
+    ∙ ap (λ (x : ℕ). length payload ∷ 0 ∷ x ∷ number ∷ payload) high
+
+pub number_after_short : (number : ℕ) (payload : List ℕ) → length payload ≤ 60 → number_after number payload ≡ (number + 1) % 256
+number_after_short number payload short = number_after-short number payload (omega arith)
 
 pub short_state : (r : Refusal) → length (state_of r) ≤ 5
 short_state OutOfMemory = lit≤ tt

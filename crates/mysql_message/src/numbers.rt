@@ -1,6 +1,6 @@
 //! Length-encoded numbers and strings.
 ghost use Rattle.std.specs.Prelude.{◌≡◌, ℕ, ◌+◌, ◌^◌, ◌<◌, ◌≤◌, List, ◌∷◌, ◌++◌, length, slice_index};
-ghost use Rattle.std.specs.Prelude.{IfSome, IsSomeAnd, OnOk, OnErr};
+ghost use Rattle.std.specs.Prelude.{IfSome, IsOk, IsSomeAnd, OnOk, OnErr};
 ghost use Rattle.mysql_packet.specs.Numbers.{little_endian, length_encoded, length_encoded_string};
 
 use arrayvec::ArrayVec;
@@ -60,10 +60,11 @@ pub fn length_encoded(n: u64) -> ArrayVec<u8, 9>
     }
 }
 
-/// Makes room for so many more bytes. Mostly it is there, and then nothing is called.
-fn make_room(more: usize, out: &mut BytesMut) -> Result<(), AllocError>
+/// Makes room for so many more bytes. Mostly it is there, and then nothing is called. Refuses only for want of memory.
+pub fn make_room(more: usize, out: &mut BytesMut) -> Result<(), AllocError>
     ensures items { out.new.items ≡ out.old.items }
     ensures room { OnOk result (more ≤ out.new.spare) }
+    ensures enough { more ≤ out.old.spare → IsOk result }
     ensures capacity { out.old.spare ≤ out.new.spare }
 {
     if out.capacity() - out.len() >= more {

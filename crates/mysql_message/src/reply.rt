@@ -1,12 +1,11 @@
 //! Writes the packets that carry no rows: OK, EOF, ERR and the line of COM_STATISTICS.
-ghost use Rattle.std.specs.Prelude.{◌≡◌, ◌+◌, ◌≤◌, ◌++◌, length, IfErr, IfOk, IsOk, OnErr, OnOk};
+ghost use Rattle.std.specs.Prelude.{◌≡◌, ◌+◌, ◌<◌, ◌≤◌, ◌++◌, length, IfErr, IfOk, IsOk, OnErr, OnOk};
 ghost use Rattle.mysql_packet.specs.Frames.{frame, number_after};
 ghost use Rattle.mysql_message.specs.Messages.{ok_payload, eof_payload, set_end_payload, statistics_payload, err_payload};
 
-use crate::numbers::{length_encoded, little_endian};
+use crate::numbers::{length_encoded, little_endian, make_room};
 use arrayvec::ArrayVec;
 use bytes::BytesMut;
-use mysql_packet::put_payload;
 use vt_value::Refusal;
 
 /// The first byte of an OK packet.
@@ -23,6 +22,9 @@ const STATISTICS: &[u8] = b"8.0.0-router";
 
 /// What comes before the SQL state.
 const STATE_MARKER: u8 = b'#';
+
+/// The length of a packet's header.
+const HEADER_LEN: usize = 4;
 
 /// More than the payload of an OK, an EOF or an ERR packet takes.
 const MAX_PAYLOAD: usize = 60;
@@ -58,8 +60,10 @@ pub fn put_ok(number: u8, affected: u64, status: u16, out: &mut BytesMut) -> Res
     // No room is ever lost.
     ensures capacity { length out.old.items + out.old.spare ≤ length out.new.items + out.new.spare }
 {
-    let payload = ok_payload(affected, status);
-    put_short(number, payload.as_slice(), out)
+    if affected < 251 {
+        return put_short(number, &small_ok_payload(affected as u8, status), out);
+    }
+    put_large_ok(number, affected, status, out)
 }
 
 /// Appends an EOF packet: no warnings, the status. It gives the sequence number after it. It refuses only for want of
@@ -124,6 +128,29 @@ pub fn put_statistics(number: u8, out: &mut BytesMut) -> Result<u8, Refusal>
     put_short(number, STATISTICS, out)
 }
 
+/// The payload of an OK packet whose number of rows takes one byte, as most do.
+fn small_ok_payload(affected: u8, status: u16) -> [u8; 7]
+    requires { affected < 251 }
+    ensures { result ≡ ok_payload affected status }
+{
+    let [low, high, ..] = little_endian(u64::from(status));
+    [OK, affected, 0x00, low, high, 0x00, 0x00]
+}
+
+/// `put_ok` of a number that takes more. It has places of its own, which others don't have to fill.
+#[inline(never)]
+fn put_large_ok(number: u8, affected: u64, status: u16, out: &mut BytesMut) -> Result<u8, Refusal>
+    ensures ok { OnOk result (out.new.items ≡ out.old.items ++ frame number (ok_payload affected status)) }
+    ensures next { IfOk result (λ n. n ≡ number_after number (ok_payload affected status)) }
+    ensures err { OnErr result (out.new.items ≡ out.old.items) }
+    ensures memory { IfErr result (λ e. e ≡ Refusal.OutOfMemory) }
+    ensures room { 64 ≤ out.old.spare → IsOk result }
+    ensures capacity { length out.old.items + out.old.spare ≤ length out.new.items + out.new.spare }
+{
+    let payload = ok_payload(affected, status);
+    put_short(number, payload.as_slice(), out)
+}
+
 fn ok_payload(affected: u64, status: u16) -> ArrayVec<u8, MAX_PAYLOAD>
     ensures { result.items ≡ ok_payload affected status }
 {
@@ -155,7 +182,8 @@ fn extend(payload: &mut ArrayVec<u8, MAX_PAYLOAD>, more: &[u8])
     let _ = payload.try_extend_from_slice(more);
 }
 
-#[tactic(auto, using(crate::proofs::Short::length_short_frame))]
+/// Appends the one packet of a short payload.
+#[tactic(auto, using(crate::proofs::Short::short_frame, crate::proofs::Short::number_after_short))]
 fn put_short(number: u8, payload: &[u8], out: &mut BytesMut) -> Result<u8, Refusal>
     requires { length payload.now ≤ 60 }
     ensures ok { OnOk result (out.new.items ≡ out.old.items ++ frame number payload.now) }
@@ -165,5 +193,8 @@ fn put_short(number: u8, payload: &[u8], out: &mut BytesMut) -> Result<u8, Refus
     ensures room { 64 ≤ out.old.spare → IsOk result }
     ensures capacity { length out.old.items + out.old.spare ≤ length out.new.items + out.new.spare }
 {
-    put_payload(number, payload, out)
+    make_room(payload.len() + HEADER_LEN, out)?;
+    out.extend_reserved(&[payload.len() as u8, 0, 0, number]);
+    out.extend_reserved(payload);
+    Ok(number.wrapping_add(1))
 }
