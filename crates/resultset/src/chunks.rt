@@ -3,11 +3,14 @@ ghost use Rattle.std.specs.Prelude.{◌≡◌, ◌+◌, ◌<◌, ◌≤◌, ◌/
 ghost use Rattle.mysql_packet.specs.Frames.{packet};
 ghost use Rattle.std.specs.List.{concat};
 ghost use Rattle.resultset.specs.Chunks.{AreChunks};
-ghost use Rattle.resultset.specs.inner.Parts.{part_payload, open_packet};
+ghost use Rattle.resultset.specs.Encoding.{definition_payload};
+ghost use Rattle.resultset.specs.inner.Parts.{HasShortNames, part_payload, open_packet};
 
+use crate::Column;
 use crate::parts::Part;
+use crate::straight::{put_short_definition, short_definition_len};
 use bytes::BytesMut;
-use mysql_message::numbers::put_bytes;
+use mysql_message::numbers::{make_room, put_bytes};
 use std::alloc::Global;
 use std::marker::Model;
 use std::mem;
@@ -15,6 +18,9 @@ use vt_value::{Items, Refusal};
 
 /// The most bytes of a chunk.
 pub const CHUNK_LIMIT: usize = 1 << 14;
+
+/// The length of a packet's header.
+const HEADER_LEN: usize = 4;
 
 /// The room that the first chunk has at first, in bytes: a short stream has less.
 const FIRST_ROOM: usize = 512;
@@ -146,6 +152,55 @@ impl Filling {
         }
         self.last.extend_from_slice(rest)?;
         Ok(())
+    }
+
+    /// Appends the one packet of a short payload. Refuses only for want of memory.
+    #[inline(always)]
+    pub(crate) fn put_short(
+        &mut self,
+        alloc: Global,
+        number: u8,
+        payload: &[u8],
+    ) -> Result<(), Refusal>
+        requires { length payload.now < 256 }
+        ensures ok { OnOk result (self.new ≡ self.old ++ packet number payload.now) }
+        ensures err { IfErr result (λ e. e ≡ Refusal.OutOfMemory) }
+    {
+        let header = [payload.len() as u8, 0, 0, number];
+        if payload.len() + HEADER_LEN > CHUNK_LIMIT - self.last.len() {
+            return self.append_both(alloc, &header, payload);
+        }
+        make_room(payload.len() + HEADER_LEN, &mut self.last)?;
+        self.last.extend_reserved(&header);
+        self.last.extend_reserved(payload);
+        Ok(())
+    }
+
+    /// Appends bytes, and others after them.
+    #[inline(never)]
+    fn append_both(&mut self, alloc: Global, front: &[u8], more: &[u8]) -> Result<(), Refusal>
+        ensures ok { OnOk result (self.new ≡ self.old ++ (front.now ++ more.now)) }
+        ensures err { IfErr result (λ e. e ≡ Refusal.OutOfMemory) }
+    {
+        self.append(alloc, front)?;
+        self.append(alloc, more)
+    }
+
+    /// Appends the packet of a definition with short names straight into the present chunk, if this has room for it. Tells whether it has.
+    /// Refuses only for want of memory.
+    pub(crate) fn put_definition(&mut self, number: u8, column: &Column) -> Result<bool, Refusal>
+        requires { HasShortNames column.now }
+        ensures put { IfOk result (λ put. self.new ≡ (if put then self.old ++ packet number (definition_payload column.now) else self.old)) }
+        ensures short { length (definition_payload column.now) < 2048 }
+        ensures err { IfErr result (λ e. e ≡ Refusal.OutOfMemory) }
+    {
+        let len = short_definition_len(column);
+        if len + HEADER_LEN > CHUNK_LIMIT - self.last.len() {
+            return Ok(false);
+        }
+        make_room(len + HEADER_LEN, &mut self.last)?;
+        put_short_definition(number, len, column, &mut self.last);
+        Ok(true)
     }
 
     /// Appends the packet of a part, encoded straight into the present chunk, if this has room for all of it. Tells whether it has. Refuses

@@ -5,25 +5,17 @@ ghost use Rattle.resultset.specs.inner.Parts.{part_payload};
 use crate::Column;
 use crate::writing::{put_definition, put_row};
 use bytes::BytesMut;
-use mysql_message::numbers::{put_bytes, put_length_encoded};
-use mysql_message::{eof_payload, set_end_payload};
 use vt_value::{Refusal, Value};
 
-/// What one packet of a result set carries.
+/// What a packet of a result set carries whose length isn't known before it is written.
 #[derive(Clone, Copy)]
 pub(crate) enum Part<'a> {
-    /// How many columns there are.
-    Count(usize),
     Definition(&'a Column<'a>),
     Row(&'a [Value]),
-    /// What comes after the definitions, or after the rows: the status.
-    Eof(u16),
-    /// What comes after the rows if there are no EOF packets: the status.
-    SetEnd(u16),
 }
 
-/// The room that is made for a header, a number of columns or an end.
-const SHORT_ROOM: usize = 16;
+/// The room that is made for a header.
+const HEADER_ROOM: usize = 16;
 
 /// The room that is made for a header, the fixed fields of a definition and the lengths of its names.
 const DEFINITION_ROOM: usize = 72;
@@ -36,7 +28,7 @@ const LENGTH_ROOM: usize = 9;
 
 // How many bytes a row takes at most, with its header.
 fn row_room(row: &[Value]) -> usize {
-    let mut room = SHORT_ROOM;
+    let mut room = HEADER_ROOM;
     for value in row {
         let more = match value {
             Value::Null => 1,
@@ -67,7 +59,6 @@ impl<'a> Part<'a> {
         match self {
             Part::Row(row) => row_room(row),
             Part::Definition(column) => definition_room(column),
-            _ => SHORT_ROOM,
         }
     }
 
@@ -80,18 +71,6 @@ impl<'a> Part<'a> {
         match self {
             Part::Row(row) => put_row(row, out),
             Part::Definition(column) => put_definition(column, out),
-            Part::Count(count) => {
-                put_length_encoded(*count as u64, out)?;
-                Ok(())
-            }
-            Part::Eof(status) => {
-                put_bytes(&eof_payload(*status), out)?;
-                Ok(())
-            }
-            Part::SetEnd(status) => {
-                put_bytes(&set_end_payload(*status), out)?;
-                Ok(())
-            }
         }
     }
 }

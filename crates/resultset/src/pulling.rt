@@ -1,6 +1,7 @@
 //! Result sets whose rows are pulled.
-ghost use Rattle.std.specs.Prelude.{◌≡◌, ◌+◌, ◌≤◌, ◌++◌, length, map, IfErr, IfOk, OnErr, OnOk};
+ghost use Rattle.std.specs.Prelude.{◌≡◌, ◌+◌, ◌<◌, ◌≤◌, ◌++◌, length, map, IfErr, IfOk, OnErr, OnOk};
 ghost use Rattle.std.specs.List.{concat};
+ghost use Rattle.mysql_packet.specs.Numbers.{length_encoded};
 ghost use Rattle.mysql_packet.specs.Frames.{frame, frames_from, number_after, number_after_all};
 ghost use Rattle.resultset.specs.Chunks.{AreChunks};
 ghost use Rattle.resultset.specs.Encoding.{row_payload, definition_payload, after_definitions, after_rows, set_payloads, payloads_of, encoded};
@@ -9,8 +10,11 @@ ghost use Rattle.resultset.specs.inner.Parts.{part_payload};
 
 use crate::chunks::{CHUNK_LIMIT, Chunks, Filling, LAST_ROOM};
 use crate::parts::Part;
+use crate::straight::has_short_names;
 use crate::{Column, Outcome, SetEnd};
 use bytes::BytesMut;
+use mysql_message::numbers::length_encoded;
+use mysql_message::{eof_payload, set_end_payload};
 use mysql_packet::put_payload;
 use operators::Operator;
 use std::alloc::Global;
@@ -137,6 +141,59 @@ fn fill_part(alloc: Global, part: &Part, number: u8, filling: &mut Filling) -> R
     fill_long(alloc, part, number, filling)
 }
 
+/// Appends the packet of a short payload.
+#[inline(always)]
+fn fill_short(
+    alloc: Global,
+    payload: &[u8],
+    number: u8,
+    filling: &mut Filling,
+) -> Result<u8, Refusal>
+    requires { length payload.now < 256 }
+    ensures ok { OnOk result (filling.new ≡ filling.old ++ frame number payload.now) }
+    ensures next { IfOk result (λ n. n ≡ number_after number payload.now) }
+    ensures err { IfErr result (λ e. e ≡ Refusal.OutOfMemory) }
+{
+    match filling.put_short(alloc, number, payload) {
+        Ok(()) => Ok(number.wrapping_add(1)),
+        Err(refusal) => Err(refusal),
+    }
+}
+
+/// Appends the packet of the number of columns.
+fn fill_count(alloc: Global, count: usize, number: u8, filling: &mut Filling) -> Result<u8, Refusal>
+    ensures ok { OnOk result (filling.new ≡ filling.old ++ frame number (length_encoded count)) }
+    ensures next { IfOk result (λ n. n ≡ number_after number (length_encoded count)) }
+    ensures err { IfErr result (λ e. e ≡ Refusal.OutOfMemory) }
+{
+    if count < 251 {
+        return fill_short(alloc, &[count as u8], number, filling);
+    }
+    fill_short(
+        alloc,
+        length_encoded(count as u64).as_slice(),
+        number,
+        filling,
+    )
+}
+
+/// Appends the packets of a definition: most have short names.
+fn fill_definition(
+    alloc: Global,
+    column: &Column,
+    number: u8,
+    filling: &mut Filling,
+) -> Result<u8, Refusal>
+    ensures ok { OnOk result (filling.new ≡ filling.old ++ frame number (definition_payload column.now)) }
+    ensures next { IfOk result (λ n. n ≡ number_after number (definition_payload column.now)) }
+    ensures err { IfErr result (λ e. e ≡ Refusal.OutOfMemory) }
+{
+    if !has_short_names(column) || !filling.put_definition(number, column)? {
+        return fill_part(alloc, &Part::Definition(column), number, filling);
+    }
+    Ok(number.wrapping_add(1))
+}
+
 /// Appends a packet for each definition.
 fn fill_definitions(
     alloc: Global,
@@ -150,7 +207,7 @@ fn fill_definitions(
 {
     let mut next = number;
     for column in columns {
-        next = fill_part(alloc, &Part::Definition(column), next, filling)?;
+        next = fill_definition(alloc, column, next, filling)?;
     }
     Ok(next)
 }
@@ -168,7 +225,7 @@ fn fill_definitions_end(
     ensures err { IfErr result (λ e. e ≡ Refusal.OutOfMemory) }
 {
     match end {
-        SetEnd::EofPackets => fill_part(alloc, &Part::Eof(status), number, filling),
+        SetEnd::EofPackets => fill_short(alloc, &eof_payload(status), number, filling),
         SetEnd::OkPacket => Ok(number),
     }
 }
@@ -186,8 +243,8 @@ fn fill_rows_end(
     ensures err { IfErr result (λ e. e ≡ Refusal.OutOfMemory) }
 {
     match end {
-        SetEnd::EofPackets => fill_part(alloc, &Part::Eof(status), number, filling),
-        SetEnd::OkPacket => fill_part(alloc, &Part::SetEnd(status), number, filling),
+        SetEnd::EofPackets => fill_short(alloc, &eof_payload(status), number, filling),
+        SetEnd::OkPacket => fill_short(alloc, &set_end_payload(status), number, filling),
     }
 }
 
@@ -204,7 +261,7 @@ fn fill_head(
     ensures next { IfOk result (λ n. n ≡ number_after_all number (head_payloads end columns.now status)) }
     ensures err { IfErr result (λ e. e ≡ Refusal.OutOfMemory) }
 {
-    let number = fill_part(alloc, &Part::Count(columns.len()), number, filling)?;
+    let number = fill_count(alloc, columns.len(), number, filling)?;
     let number = fill_definitions(alloc, columns, number, filling)?;
     fill_definitions_end(alloc, number, status, end, filling)
 }

@@ -208,7 +208,8 @@ pub(crate) fn put_definition(column: &Column, payload: &mut BytesMut) -> Result<
     ensures capacity { length payload.old.items + payload.old.spare ≤ length payload.new.items + payload.new.spare }
 {
     put_names(column, payload)?;
-    put_fixed_fields(column.kind, column.flags, payload)
+    put_bytes(&fixed_fields(column.kind, column.flags), payload)?;
+    Ok(())
 }
 
 /// Appends the catalog, which is `def`, and the names: each of the table's and the column's has two.
@@ -226,14 +227,12 @@ fn put_names(column: &Column, payload: &mut BytesMut) -> Result<(), Refusal>
     Ok(())
 }
 
-/// Appends the fields of a fixed length: the character set binary, the length, the type, the flags, no decimals.
-fn put_fixed_fields(kind: Kind, flags: u16, payload: &mut BytesMut) -> Result<(), Refusal>
-    ensures ok { OnOk result (payload.new.items ≡ payload.old.items ++ fixed_fields kind flags) }
-    ensures memory { IfErr result (λ e. e ≡ Refusal.OutOfMemory) }
-    ensures capacity { length payload.old.items + payload.old.spare ≤ length payload.new.items + payload.new.spare }
+/// The fields of a fixed length: the character set binary, the length, the type, the flags, no decimals.
+pub(crate) fn fixed_fields(kind: Kind, flags: u16) -> [u8; 13]
+    ensures { result ≡ fixed_fields kind flags }
 {
     let [low, high, ..] = little_endian(u64::from(flags));
-    let fields = [
+    [
         0x0C,
         63,
         0,
@@ -247,9 +246,7 @@ fn put_fixed_fields(kind: Kind, flags: u16, payload: &mut BytesMut) -> Result<()
         0,
         0,
         0,
-    ];
-    put_bytes(&fields, payload)?;
-    Ok(())
+    ]
 }
 
 fn type_of(kind: Kind) -> u8

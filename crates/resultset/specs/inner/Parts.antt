@@ -1,17 +1,24 @@
 -- What one packet of a result set carries.
-use Rattle.std.specs.Prelude.{ℕ, List, ◌∷◌}
-use Rattle.mysql_packet.specs.Numbers.{length_encoded}
-use Rattle.mysql_message.specs.Messages.{eof_payload, set_end_payload}
+use Rattle.std.specs.Prelude.{ℕ, ◌<◌, List, ◌∷◌, ◌++◌, length}
+use Rattle.mysql_packet.specs.Numbers.{length_encoded_string}
+use Rattle.resultset.specs.declared.Column.{Column}
 use Rattle.resultset.specs.Encoding.{row_payload, definition_payload}
 use Rattle.resultset.specs.declared.parts.Part.{Part}
-use Rattle.resultset.specs.declared.parts.Part.TheVariants.{Count, Definition, Row, Eof, SetEnd}
+use Rattle.resultset.specs.declared.parts.Part.TheVariants.{Definition, Row}
 
 abbrev pub part_payload : Part → List ℕ
-part_payload (Count n) = length_encoded n
 part_payload (Definition column) = definition_payload column.now
 part_payload (Row row) = row_payload row.now
-part_payload (Eof status) = eof_payload status
-part_payload (SetEnd status) = set_end_payload status
+
+-- the length of each name takes one byte
+abbrev pub HasShortNames : Column → Type 0
+HasShortNames c = (length c.schema < 251) × (length c.table < 251) × (length c.name < 251) × (length c.org_name < 251)
+
+-- the names of a definition after its catalog
+abbrev pub names_payload : Column → List ℕ
+names_payload c =
+    length_encoded_string c.schema ++ length_encoded_string c.table ++ length_encoded_string c.table
+    ++ length_encoded_string c.name ++ length_encoded_string c.org_name
 
 -- a packet that says that its payload is empty
 abbrev pub open_packet : ℕ → List ℕ → List ℕ
