@@ -99,6 +99,7 @@ pub fn put_length_encoded(n: u64, out: &mut BytesMut) -> Result<(), AllocError>
 }
 
 /// Appends a short text after its length, which is one byte, with room made once.
+#[inline(always)]
 fn put_short_string(text: &[u8], out: &mut BytesMut) -> Result<(), AllocError>
     requires { length text.now < 251 }
     ensures ok { OnOk result (out.new.items ≡ out.old.items ++ length_encoded_string text.now) }
@@ -111,7 +112,19 @@ fn put_short_string(text: &[u8], out: &mut BytesMut) -> Result<(), AllocError>
     Ok(())
 }
 
+/// Appends a text after its length, which takes more than a byte. If a growth is refused, `out` may have the length already.
+#[inline(never)]
+fn put_long_string(text: &[u8], out: &mut BytesMut) -> Result<(), AllocError>
+    ensures ok { OnOk result (out.new.items ≡ out.old.items ++ length_encoded_string text.now) }
+    // No room is ever lost.
+    ensures capacity { length out.old.items + out.old.spare ≤ length out.new.items + out.new.spare }
+{
+    put_length_encoded(text.len() as u64, out)?;
+    put_bytes(text, out)
+}
+
 /// Appends a text after its length. If a growth is refused, `out` may have the length already.
+#[inline(always)]
 pub fn put_length_encoded_string(text: &[u8], out: &mut BytesMut) -> Result<(), AllocError>
     ensures ok { OnOk result (out.new.items ≡ out.old.items ++ length_encoded_string text.now) }
     // No room is ever lost.
@@ -120,8 +133,7 @@ pub fn put_length_encoded_string(text: &[u8], out: &mut BytesMut) -> Result<(), 
     if text.len() < 251 {
         return put_short_string(text, out);
     }
-    put_length_encoded(text.len() as u64, out)?;
-    put_bytes(text, out)
+    put_long_string(text, out)
 }
 
 /// The number at the front of the bytes, in its shortest length-encoded form, and what follows it.

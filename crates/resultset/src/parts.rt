@@ -63,6 +63,7 @@ impl<'a> Part<'a> {
     }
 
     /// Appends its payload.
+    #[inline(always)]
     pub(crate) fn put(&self, out: &mut BytesMut) -> Result<(), Refusal>
         ensures ok { OnOk result (out.new.items ≡ out.old.items ++ part_payload self.now) }
         ensures err { IfErr result (λ e. e ≡ Refusal.OutOfMemory) }

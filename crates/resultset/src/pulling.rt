@@ -116,6 +116,7 @@ fn fill<R: Operator>(
 }
 
 /// Appends the packets of a part that the present chunk has no room for.
+#[inline(never)]
 fn fill_long(alloc: Global, part: &Part, number: u8, filling: &mut Filling) -> Result<u8, Refusal>
     ensures ok { OnOk result (filling.new ≡ filling.old ++ frame number (part_payload part.now)) }
     ensures next { IfOk result (λ n. n ≡ number_after number (part_payload part.now)) }
