@@ -344,6 +344,12 @@ one_query_or_refusal o l handshake set after p q kept then payload out text outc
         one_query (context_of o handshake) (Means o l) set after s now payload out text (Refused OutOfMemory) first is (unshown_text o l handshake set after s now text outcome gives rows)
         (e ∙ ap (λ (b : Bool). Encoded (Refused OutOfMemory) b) same)
 
+-- rows as they are shown, or the refusal for want of memory
+pub shown_or_full : (schema : VSchema) (selected : Selected) (outcome : Outcome) → Shows schema (answer.Rows selected) outcome ⊎ (outcome ≡ Refused OutOfMemory)
+    → Shows schema (answer.Rows selected) outcome ⊎ (HasRows (answer.Rows selected) × (outcome ≡ Refused OutOfMemory))
+shown_or_full schema selected outcome (inl is) = inl is
+shown_or_full schema selected outcome (inr is) = inr (tt, is)
+
 -- a result set with the columns and rows of an answer
 pub shows : (schema : VSchema) (selected : Selected) (set : ResultSet) → AreColumns schema selected.table selected.join selected.items selected.qualified set.columns
     → set.rows ≡ selected.rows → Shows schema (answer.Rows selected) (Rows set)

@@ -129,20 +129,6 @@ fn define_missing<'e>(
     }
 }
 
-fn define_at<'e>(
-    alloc: Global,
-    schema: &'e VSchema,
-    table: &'e Table,
-    ordinal: usize,
-) -> ResultColumn<'e>
-    ensures { DefinesAt schema.now table.now ordinal result }
-{
-    match table.columns.as_slice().get(ordinal) {
-        Some(column) => define(schema, table, ordinal, column),
-        None => define_missing(alloc, schema, table, table.name.as_slice(), ordinal),
-    }
-}
-
 fn type_at(table: &Table, ordinal: usize) -> ColumnType
     ensures { result ≡ (column_at table.now ordinal).kind }
 {
@@ -295,62 +281,116 @@ fn define_aggregate_of(
     }
 }
 
-// The definition of the column at an ordinal of the table with an ordinal in the VSchema.
-fn define_of<'e>(
+// Appends the definition of the column at an ordinal of a table to a list that has room for it. It is made in its place there, and not moved.
+fn push_at<'e>(
+    alloc: Global,
+    schema: &'e VSchema,
+    table: &'e Table,
+    ordinal: usize,
+    columns: &mut Vec<ResultColumn<'e>>,
+)
+    requires { vec_len columns.old < vec_capacity columns.old }
+    ensures pushed { (column : Defined) × DefinesAt schema.now table.now ordinal column × (columns.new.items ≡ columns.old.items ++ column ∷ []) }
+    ensures capacity { vec_capacity columns.new ≡ vec_capacity columns.old }
+{
+    match table.columns.as_slice().get(ordinal) {
+        Some(column) => columns.push_reserved(define(schema, table, ordinal, column)),
+        None => push_missing(
+            alloc,
+            schema,
+            table,
+            table.name.as_slice(),
+            ordinal,
+            columns,
+        ),
+    }
+}
+
+// Appends the definition of a column that isn't there.
+#[inline(never)]
+fn push_missing<'e>(
+    alloc: Global,
+    schema: &'e VSchema,
+    table: &Table,
+    name: &'e [u8],
+    ordinal: usize,
+    columns: &mut Vec<ResultColumn<'e>>,
+)
+    requires name { name.now ≡ table.now.name }
+    requires room { vec_len columns.old < vec_capacity columns.old }
+    ensures pushed { (column : Defined) × Defines schema.now table.now ordinal no_column column × (columns.new.items ≡ columns.old.items ++ column ∷ []) }
+    ensures capacity { vec_capacity columns.new ≡ vec_capacity columns.old }
+{
+    columns.push_reserved(define_missing(alloc, schema, table, name, ordinal));
+}
+
+// Appends the definition of the column at an ordinal of the table with an ordinal in the VSchema.
+fn push_of<'e>(
     alloc: Global,
     schema: &'e VSchema,
     table: usize,
     ordinal: usize,
-) -> ResultColumn<'e>
-    ensures { DefinesAt schema.now (slice_index_or schema.now.tables table no_table) ordinal result }
+    columns: &mut Vec<ResultColumn<'e>>,
+)
+    requires { vec_len columns.old < vec_capacity columns.old }
+    ensures pushed { (column : Defined) × DefinesAt schema.now (slice_index_or schema.now.tables table no_table) ordinal column
+        × (columns.new.items ≡ columns.old.items ++ column ∷ []) }
+    ensures capacity { vec_capacity columns.new ≡ vec_capacity columns.old }
 {
     match schema.tables.as_slice().get(table) {
-        Some(table) => define_at(alloc, schema, table, ordinal),
-        None => define_missing(alloc, schema, &missing_table(alloc), &[], ordinal),
+        Some(table) => push_at(alloc, schema, table, ordinal, columns),
+        None => push_missing(alloc, schema, &missing_table(alloc), &[], ordinal, columns),
     }
 }
 
-// The definition of the column at an ordinal of the rows of a table, or of its pairs with another's.
-fn define_shown<'e>(
+// Appends the definition of the column at an ordinal of the rows of a table, or of its pairs with another's.
+fn push_shown<'e>(
     alloc: Global,
     schema: &'e VSchema,
     table: usize,
     join: Option<Join>,
     ordinal: usize,
-) -> ResultColumn<'e>
-    ensures { DefinesAt schema.now (owner_of schema.now (slice_index_or schema.now.tables table no_table) join ordinal).0
-        (owner_of schema.now (slice_index_or schema.now.tables table no_table) join ordinal).1 result }
+    columns: &mut Vec<ResultColumn<'e>>,
+)
+    requires { vec_len columns.old < vec_capacity columns.old }
+    ensures pushed { (column : Defined) × DefinesAt schema.now (owner_of schema.now (slice_index_or schema.now.tables table no_table) join ordinal).0
+        (owner_of schema.now (slice_index_or schema.now.tables table no_table) join ordinal).1 column
+        × (columns.new.items ≡ columns.old.items ++ column ∷ []) }
+    ensures capacity { vec_capacity columns.new ≡ vec_capacity columns.old }
 {
     match join {
-        None => define_of(alloc, schema, table, ordinal),
+        None => push_of(alloc, schema, table, ordinal, columns),
         Some(join) => {
             if ordinal < join.width {
-                define_of(alloc, schema, table, ordinal)
+                push_of(alloc, schema, table, ordinal, columns)
             } else {
-                define_of(alloc, schema, join.table, ordinal - join.width)
+                push_of(alloc, schema, join.table, ordinal - join.width, columns)
             }
         }
     }
 }
 
-fn define_item<'e>(
+// Appends the definition of an aggregate over the table with an ordinal in the VSchema.
+#[inline(never)]
+fn push_aggregate<'e>(
     alloc: Global,
-    schema: &'e VSchema,
+    schema: &VSchema,
     table: usize,
-    join: Option<Join>,
     qualified: bool,
     item: &Item<usize>,
-) -> Result<ResultColumn<'e>, Refusal>
-    ensures ok { IfOk result (DefinesItem schema.now (slice_index_or schema.now.tables table no_table) join qualified item.now) }
+    columns: &mut Vec<ResultColumn<'e>>,
+) -> Result<(), Refusal>
+    requires { vec_len columns.old < vec_capacity columns.old }
+    ensures ok { OnOk result ((column : Defined) × DefinesAggregate (slice_index_or schema.now.tables table no_table) qualified item.now column
+        × (columns.new.items ≡ columns.old.items ++ column ∷ [])) }
     ensures err { IfErr result (λ e. e ≡ Refusal.OutOfMemory) }
+    ensures capacity { vec_capacity columns.new ≡ vec_capacity columns.old }
 {
-    match item {
-        Item::Column(ordinal) => Ok(define_shown(alloc, schema, table, join, *ordinal)),
-        _ => define_aggregate_of(alloc, schema, table, qualified, item),
-    }
+    columns.push_reserved(define_aggregate_of(alloc, schema, table, qualified, item)?);
+    Ok(())
 }
 
-// Appends the definition of an item to a list that has room for it. That of a column isn't moved through a result.
+// Appends the definition of an item to a list that has room for it.
 fn push_item<'e>(
     alloc: Global,
     schema: &'e VSchema,
@@ -369,11 +409,11 @@ fn push_item<'e>(
 {
     match item {
         Item::Column(ordinal) => {
-            columns.push_reserved(define_shown(alloc, schema, table, join, *ordinal));
+            push_shown(alloc, schema, table, join, *ordinal, columns);
             Ok(())
         }
         _ => {
-            columns.push_reserved(define_item(alloc, schema, table, join, qualified, item)?);
+            push_aggregate(alloc, schema, table, qualified, item, columns)?;
             Ok(())
         }
     }

@@ -8,20 +8,21 @@ ghost use Rattle.mysql_message.specs.Messages.{query, command_of, ok_payload, er
 ghost use Rattle.resultset.specs.declared.Outcome.{Outcome};
 ghost use Rattle.resultset.specs.Encoding.{encoded, after_rows};
 ghost use Rattle.conversation.specs.Means.{Means, context_of};
-ghost use Rattle.conversation.specs.inner.Means.{LeadsKept, IsRows};
+ghost use Rattle.conversation.specs.inner.Means.{LeadsKept, AnswersAsked};
 ghost use Rattle.conversation.specs.Logins.{keyspace_named};
 ghost use Rattle.conversation.specs.Packets.{reply_number};
 ghost use Rattle.conversation.specs.SessionContext.{status_flags};
 ghost use Rattle.conversation.specs.Talk.{AnswersPayload, set_end_of};
-ghost use Rattle.conversation.specs.inner.Replies.{reply_bytes};
+ghost use Rattle.conversation.specs.inner.Replies.{reply_bytes, TellsOutcome};
 ghost use Rattle.conversation.specs.inner.Sessions.{command_payload};
 
 use crate::access::Handshake;
 use crate::client_reply::{ClientReply, ClientReplyKind, ShownSet};
 use crate::connection_state::{ConnectionState, Phase, Settings, first_number};
 use crate::end::End;
+use crate::local_answers::not_run;
 use crate::login::{keyspace_named, put_answer, put_response};
-use crate::texts::given;
+use crate::texts::{asked, run_text};
 use bytes::BytesMut;
 use journal::Naming;
 use mysql_handshake::{DEPRECATE_EOF, is_set};
@@ -146,6 +147,7 @@ fn put_rows(
 
 /// The reply to a statement, after its full chunks if it has rows. If there is no memory for them, it is the refusal that says so; a count always
 /// has room.
+#[inline(always)]
 fn put_outcome(
     alloc: Global,
     outcome: ClientReply,
@@ -156,8 +158,7 @@ fn put_outcome(
 ) -> Option<Chunks>
     requires empty { reply.old.items ≡ [] }
     requires room { REPLY_ROOM ≤ reply.old.spare }
-    ensures bytes { (reply_bytes result reply.new.items ≡ encoded end outcome.entry number status)
-        ⊎ (IsRows outcome.entry × (reply_bytes result reply.new.items ≡ encoded end (Outcome.Refused Refusal.OutOfMemory) number status)) }
+    ensures bytes { TellsOutcome end outcome.entry number status (reply_bytes result reply.new.items) }
     ensures room { REPLY_ROOM ≤ length reply.new.items + reply.new.spare }
 {
     match outcome.reply_kind {
@@ -248,6 +249,40 @@ fn put_option(several: bool, end: SetEnd, number: u8, status: u16, reply: &mut B
     }
 }
 
+/// The reply to a text that isn't run, by what it asks of the server, and the session's state after it.
+#[inline(never)]
+fn put_asked<W: World + Send + Sync, J: Naming + Send + Sync, G: Gate>(
+    rt: &(impl Threads + Wait + Sync),
+    alloc: Global,
+    engine: &Engine<W, J, G>,
+    pass: &mut ShardPass<W, J>,
+    tx: &mut Tx<W, J>,
+    handshake: &Handshake,
+    settings: Settings,
+    text: &[u8],
+    why: Refusal,
+    number: u8,
+    reply: &mut BytesMut,
+) -> (ConnectionState, Option<Chunks>)
+    requires empty { reply.old.items ≡ [] }
+    requires room { REPLY_ROOM ≤ reply.old.spare }
+    requires session { IsSome pass.old.session }
+    requires tx { IsOf W.opening tx.old pass.old }
+    ensures answers { (outcome : Outcome) × (then : Settings) × (result.0 ≡ ConnectionState.At (Phase.Commands then))
+        × LeadsKept W.opening pass.old tx.old pass.new tx.new
+        (λ s now. AnswersAsked (context_of W.opening handshake.now) (Means W.opening W.limits) settings s text.now (Outcome.Refused why) outcome then now)
+        × TellsOutcome (set_end_of settings.capabilities) outcome number (status_flags then.autocommit (is_some tx.new)) (reply_bytes result.1 reply.new.items) }
+    ensures tx { IsOf W.opening tx.new pass.new }
+    ensures room { REPLY_ROOM ≤ length reply.new.items + reply.new.spare }
+    ensures session { pass.new.session ≡ pass.old.session }
+{
+    let (answered, then) = asked(rt, alloc, engine, pass, tx, handshake, settings, text, why);
+    let end = set_end_of(settings.capabilities);
+    let status = status_of(then.autocommit, tx);
+    let rows = put_outcome(alloc, answered, end, number, status, reply);
+    (ConnectionState::At(Phase::Commands(then)), rows)
+}
+
 /// The reply to a query, and the session's state after it.
 fn put_query<W: World + Send + Sync, J: Naming + Send + Sync, G: Gate>(
     rt: &(impl Threads + Wait + Sync),
@@ -272,11 +307,18 @@ fn put_query<W: World + Send + Sync, J: Naming + Send + Sync, G: Gate>(
     ensures room { REPLY_ROOM ≤ length reply.new.items + reply.new.spare }
     ensures session { pass.new.session ≡ pass.old.session }
 {
-    let (outcome, then) = given(rt, alloc, engine, pass, tx, handshake, settings, text);
-    let end = set_end_of(settings.capabilities);
-    let status = status_of(then.autocommit, tx);
-    let rows = put_outcome(alloc, outcome, end, number, status, reply);
-    (ConnectionState::At(Phase::Commands(then)), rows)
+    let outcome = run_text(rt, alloc, engine, pass, tx, settings, text);
+    match not_run(&outcome) {
+        None => {
+            let end = set_end_of(settings.capabilities);
+            let status = status_of(settings.autocommit, tx);
+            let rows = put_outcome(alloc, outcome, end, number, status, reply);
+            (ConnectionState::At(Phase::Commands(settings)), rows)
+        }
+        Some(why) => put_asked(
+            rt, alloc, engine, pass, tx, handshake, settings, text, why, number, reply,
+        ),
+    }
 }
 
 /// The reply to a command whose numbers are right, of which the last is given, and the session's state after it. A reply lies in the buffer, and

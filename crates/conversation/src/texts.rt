@@ -1,6 +1,7 @@
 //! What a text gives its client: over the tables, in a transaction that is opened first if autocommit is off; or what it asks of the server.
 ghost use Rattle.std.specs.Prelude.{List, ◌≡◌, ◌↔◌, ◌⊎◌, ℕ, true, false, Some, None, is_some, IsSome, IsNone, IfOk, IfErr, IfSome, Option, codes};
 ghost use Rattle.shard_calls.specs.Pendings.{IsOf};
+ghost use Rattle.shard_calls.specs.declared.reply.Answer.{Answer};
 ghost use Rattle.sql_tree.specs.declared.Statement.{Statement};
 ghost use Rattle.resultset.specs.declared.Outcome.{Outcome};
 ghost use Rattle.client_statements.specs.declared.statement.ClientStatement.{ClientStatement};
@@ -16,7 +17,7 @@ use crate::access::Handshake;
 use crate::client_reply::{ClientReply, ClientReplyKind, ShownSet};
 use crate::columns::columns_of;
 use crate::connection_state::Settings;
-use crate::local_answers::{done, local_answer, not_run, refused, turns_on};
+use crate::local_answers::{done, local_answer, refused, turns_on};
 use client_statements::{ClientStatement, read};
 use journal::Naming;
 use route_engine::{Answer, Engine, Gate, Selected, Tx};
@@ -60,18 +61,27 @@ fn shown<'e>(alloc: Global, schema: &'e VSchema, answer: Answer) -> ClientReply<
         Answer::Count(count) => ClientReply {
             reply_kind: ClientReplyKind::Count(count),
         },
-        Answer::Rows(selected) => match result_set(alloc, schema, selected) {
-            Ok(set) => ClientReply {
-                reply_kind: ClientReplyKind::Rows(set),
-            },
-            Err(refusal) => ClientReply {
-                reply_kind: ClientReplyKind::Refused(refusal),
-            },
+        Answer::Rows(selected) => shown_rows(alloc, schema, selected),
+    }
+}
+
+/// Rows as a client's reply, or the refusal. A reply without rows isn't moved with these.
+#[inline(never)]
+fn shown_rows<'e>(alloc: Global, schema: &'e VSchema, selected: Selected) -> ClientReply<'e>
+    ensures { Shows schema.now (Answer.Rows selected) result ⊎ (result ≡ Outcome.Refused Refusal.OutOfMemory) }
+{
+    match result_set(alloc, schema, selected) {
+        Ok(set) => ClientReply {
+            reply_kind: ClientReplyKind::Rows(set),
+        },
+        Err(refusal) => ClientReply {
+            reply_kind: ClientReplyKind::Refused(refusal),
         },
     }
 }
 
 /// What the text of a statement gives its client.
+#[inline(always)]
 fn outcome_of<'e, W: World + Send + Sync, J: Naming + Send + Sync, G: Gate>(
     rt: &(impl Threads + Wait + Sync),
     alloc: Global,
@@ -87,7 +97,10 @@ fn outcome_of<'e, W: World + Send + Sync, J: Naming + Send + Sync, G: Gate>(
     ensures session { pass.new.session ≡ pass.old.session }
 {
     match engine.execute(rt, alloc, pass, tx, text) {
-        Ok(reply) => shown(alloc, engine.schema(), reply.answer),
+        Ok(reply) => {
+            drop(reply.reads);
+            shown(alloc, engine.schema(), reply.answer)
+        }
         Err(refusal) => ClientReply {
             reply_kind: ClientReplyKind::Refused(refusal),
         },
@@ -177,24 +190,37 @@ fn text_opens_one(alloc: Global, text: &[u8]) -> Result<bool, Refusal>
     opens
 }
 
-/// Whether a transaction is opened before the text is run.
-fn opens_first<W: World, J: Naming>(
+/// What a text gives that is run over the tables while autocommit is off and no transaction is open: one is opened first, if it needs that.
+#[inline(never)]
+fn run_unopened<'e, W: World + Send + Sync, J: Naming + Send + Sync, G: Gate>(
+    rt: &(impl Threads + Wait + Sync),
     alloc: Global,
-    commits: bool,
-    tx: &Tx<W, J>,
+    engine: &'e Engine<W, J, G>,
+    pass: &mut ShardPass<W, J>,
+    tx: &mut Tx<W, J>,
+    settings: Settings,
     text: &[u8],
-) -> Result<bool, Refusal>
-    ensures opens { IfOk result (λ opens. opens ≡ true ↔ ((commits ≡ false) × (tx.now ≡ None) × OpensOne text.now)) }
-    ensures err { IfErr result (λ why. (why ≡ Refusal.OutOfMemory) × (commits ≡ false) × (tx.now ≡ None)) }
+) -> ClientReply<'e>
+    requires session { IsSome pass.old.session }
+    requires tx { IsOf W.opening tx.old pass.old }
+    requires off { settings.autocommit ≡ false }
+    requires closed { tx.old ≡ None }
+    ensures runs { (handshake : Handshake) → LeadsKept W.opening pass.old tx.old pass.new tx.new
+        (λ s now. RunsText (context_of W.opening handshake) (Means W.opening W.limits) settings s text.now result now) }
+    ensures tx { IsOf W.opening tx.new pass.new }
+    ensures session { pass.new.session ≡ pass.old.session }
 {
-    if commits || tx.is_open() {
-        return Ok(false);
+    match text_opens_one(alloc, text) {
+        Ok(true) => after_begin(rt, alloc, engine, pass, tx, text),
+        Ok(false) => outcome_of(rt, alloc, engine, pass, tx, text),
+        Err(why) => ClientReply {
+            reply_kind: ClientReplyKind::Refused(why),
+        },
     }
-    text_opens_one(alloc, text)
 }
 
 /// What a text gives that is run over the tables.
-fn run_text<'e, W: World + Send + Sync, J: Naming + Send + Sync, G: Gate>(
+pub(crate) fn run_text<'e, W: World + Send + Sync, J: Naming + Send + Sync, G: Gate>(
     rt: &(impl Threads + Wait + Sync),
     alloc: Global,
     engine: &'e Engine<W, J, G>,
@@ -210,13 +236,10 @@ fn run_text<'e, W: World + Send + Sync, J: Naming + Send + Sync, G: Gate>(
     ensures tx { IsOf W.opening tx.new pass.new }
     ensures session { pass.new.session ≡ pass.old.session }
 {
-    match opens_first(alloc, settings.autocommit, tx, text) {
-        Ok(true) => after_begin(rt, alloc, engine, pass, tx, text),
-        Ok(false) => outcome_of(rt, alloc, engine, pass, tx, text),
-        Err(why) => ClientReply {
-            reply_kind: ClientReplyKind::Refused(why),
-        },
+    if settings.autocommit || tx.is_open() {
+        return outcome_of(rt, alloc, engine, pass, tx, text);
     }
+    run_unopened(rt, alloc, engine, pass, tx, settings, text)
 }
 
 /// What turning autocommit on gives, and what then holds for commands. It commits an open transaction, and stays off if that is refused.
@@ -313,7 +336,7 @@ fn answer_read<'e, W: World + Send + Sync, J: Naming + Send + Sync, G: Gate>(
 }
 
 /// What a text gives that isn't run, and what then holds for commands: what it asks of the server, or its refusal.
-fn asked<'e, W: World + Send + Sync, J: Naming + Send + Sync, G: Gate>(
+pub(crate) fn asked<'e, W: World + Send + Sync, J: Naming + Send + Sync, G: Gate>(
     rt: &(impl Threads + Wait + Sync),
     alloc: Global,
     engine: &'e Engine<W, J, G>,
@@ -340,30 +363,5 @@ fn asked<'e, W: World + Send + Sync, J: Naming + Send + Sync, G: Gate>(
             answered
         }
         Err(_) => (refused(Refusal::OutOfMemory), settings),
-    }
-}
-
-/// What a text gives its client, and what then holds for commands.
-pub fn given<'e, W: World + Send + Sync, J: Naming + Send + Sync, G: Gate>(
-    rt: &(impl Threads + Wait + Sync),
-    alloc: Global,
-    engine: &'e Engine<W, J, G>,
-    pass: &mut ShardPass<W, J>,
-    tx: &mut Tx<W, J>,
-    handshake: &Handshake,
-    settings: Settings,
-    text: &[u8],
-) -> (ClientReply<'e>, Settings)
-    requires session { IsSome pass.old.session }
-    requires tx { IsOf W.opening tx.old pass.old }
-    ensures gives { LeadsKept W.opening pass.old tx.old pass.new tx.new
-        (λ s now. GivesText (context_of W.opening handshake.now) (Means W.opening W.limits) settings s text.now result.0 result.1 now) }
-    ensures tx { IsOf W.opening tx.new pass.new }
-    ensures session { pass.new.session ≡ pass.old.session }
-{
-    let outcome = run_text(rt, alloc, engine, pass, tx, settings, text);
-    match not_run(&outcome) {
-        None => (outcome, settings),
-        Some(why) => asked(rt, alloc, engine, pass, tx, handshake, settings, text, why),
     }
 }
