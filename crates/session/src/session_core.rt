@@ -98,7 +98,9 @@ fn whole_command<'p>(
     }
 }
 
-/// The replies to a piece of the input as its framer cuts it, and the session's state after it.
+/// The replies to a piece of the input as its framer cuts it, and the session's state after it. Few pieces come to it, and it has large values
+/// of its own.
+#[inline(never)]
 fn feed_framed<W: World + Send + Sync, J: Naming + Send + Sync, G: Gate, S: Sink>(
     rt: &(impl Threads + Wait + Sync),
     alloc: Global,
