@@ -73,6 +73,12 @@ updates_kept n assignments condition (row ∷ rows) = by (updates_kept n assignm
     by ih true t = simp t (ap (λ (l : List RowChange). cond (same_row row (assigned assignments row)) [] (Replaced n row (assigned assignments row) ∷ []) ++ l) ih)
     by ih false t = simp t ih
 
+-- rows of which the same are kept get the same updates
+pub updates_alike : (n : ℕ) (assignments : List (Assignment ℕ)) (condition : Option (Condition ℕ)) (rows others : List Row) → filter (is_kept condition) rows ≡ filter (is_kept condition) others
+    → flat_map (row_updates n assignments condition) rows ≡ flat_map (row_updates n assignments condition) others
+updates_alike n assignments condition rows others same =
+    sym (updates_kept n assignments condition rows) ∙ (ap (flat_map (row_updates n assignments condition)) same ∙ updates_kept n assignments condition others)
+
 pub update_of_kept : (t : Table) (w : Write) (n : ℕ) (assignments : List (Assignment ℕ)) (condition : Option (Condition ℕ)) → w ≡ Update n assignments condition
     → (rows : List Row) → changes_over t w (filter (is_kept condition) rows) ≡ changes_over t w rows
 update_of_kept t w n assignments condition is rows =

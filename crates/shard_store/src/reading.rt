@@ -1,6 +1,6 @@
 //! What queries give and what writes change, over the stored rows. If a condition fixes the first key column to values, the rows of these
 //! values alone are looked at, and an INSERT looks each of its keys up.
-ghost use Rattle.std.specs.Prelude.{◌≡◌, ◌⊎◌, ◌<◌, true, IsTrue, IfOk, IfErr, IfSome, MatchOption, Ok, Err, List, [], filter, length, slice_index, option_to_list, option_copied};
+ghost use Rattle.std.specs.Prelude.{◌≡◌, ◌⊎◌, ◌<◌, true, IsTrue, IfOk, IfErr, IfSome, MatchOption, Ok, Err, List, [], map, flat_map, filter, length, slice_index, option_to_list, option_copied};
 ghost use Rattle.std.specs.List.{list_any};
 ghost use Rattle.vt_value.specs.declared.value.Value.{Value as V};
 ghost use Rattle.vt_value.specs.Values.{value_at};
@@ -11,7 +11,8 @@ ghost use Rattle.vschema.specs.Sources.{source_rows};
 ghost use Rattle.sql_eval.specs.Conditions.{is_kept};
 ghost use Rattle.sql_eval.specs.Groups.{CanBeSummed};
 ghost use Rattle.sql_eval.specs.Queries.{IsAnswer};
-ghost use Rattle.sql_eval.specs.Writes.{written_table, changes_over};
+ghost use Rattle.sql_eval.specs.Writes.{written_table, row_updates, changes_over};
+ghost use Rattle.vschema.specs.declared.changes.RowChange.TheVariants.{Removed};
 ghost use Rattle.shard_store.specs.Slots.{rows_in};
 ghost use Rattle.shard_store.specs.Tables.{key_at, begins_with};
 ghost use Rattle.shard_store.specs.inner.Stores.{IsInsertOf};
@@ -27,8 +28,10 @@ use crate::stored::StoredTables;
 use crate::table::StoredTable;
 use crate::table_rows::TableRows;
 use crate::walk::{AllRows, ChosenRows, ChosenSlots, RowsAt};
-use sql_eval::{all_kept, change_local, select_from, select_local};
-use sql_tree::Condition;
+use sql_eval::{
+    all_kept, change_local, removals_from, select_from, select_local, updates_from,
+};
+use sql_tree::{Assignment, Condition};
 use std::alloc::Global;
 use vschema::{Query, RowChange, Table, Write};
 use vt_value::{Items, Refusal, Row, Value};
@@ -175,6 +178,41 @@ impl TableRows {
         all_kept(alloc, condition, rows)
     }
 
+    // What an UPDATE of the table, which is at this ordinal, does to the rows.
+    fn updates(
+        &self,
+        alloc: Global,
+        ordinal: usize,
+        assignments: &[Assignment<usize>],
+        condition: &Option<Condition<usize>>,
+    ) -> Result<Items<RowChange>, Refusal>
+        ensures ok { IfOk result (λ changes. changes ≡ flat_map (row_updates ordinal assignments.now condition.now) self.now.rows) }
+        ensures err { IfErr result (λ e. e ≡ Refusal.OutOfMemory) }
+    {
+        if let Some(found) = self.at(alloc, condition)? {
+            return updates_from(alloc, ordinal, assignments, condition, found);
+        }
+        let rows = self.chosen(alloc, condition)?;
+        updates_from(alloc, ordinal, assignments, condition, rows)
+    }
+
+    // What a DELETE from the table, which is at this ordinal, does to the rows.
+    fn removals(
+        &self,
+        alloc: Global,
+        ordinal: usize,
+        condition: &Option<Condition<usize>>,
+    ) -> Result<Items<RowChange>, Refusal>
+        ensures ok { IfOk result (λ changes. changes ≡ map (Removed ordinal) (filter (is_kept condition.now) self.now.rows)) }
+        ensures err { IfErr result (λ e. e ≡ Refusal.OutOfMemory) }
+    {
+        if let Some(found) = self.at(alloc, condition)? {
+            return removals_from(alloc, ordinal, condition, found);
+        }
+        let rows = self.chosen(alloc, condition)?;
+        removals_from(alloc, ordinal, condition, rows)
+    }
+
     // What a query gives over the rows.
     fn select(&self, alloc: Global, query: &Query) -> Result<Items<Row>, Refusal>
         requires summed { is_aggregated query.now ≡ true → CanBeSummed self.now.rows }
@@ -298,23 +336,36 @@ impl StoredTables {
         }
     }
 
-    // What a write without new rows does.
-    fn changed(
+    // What an UPDATE does.
+    fn updates(
         &self,
         alloc: Global,
-        table: &Table,
-        write: &Write,
+        ordinal: usize,
+        assignments: &[Assignment<usize>],
+        condition: &Option<Condition<usize>>,
+    ) -> Result<Items<RowChange>, Refusal>
+        ensures ok { IfOk result (λ changes. changes ≡ flat_map (row_updates ordinal assignments.now condition.now) (rows_of self.now.rows ordinal)) }
+        ensures err { IfErr result (λ e. e ≡ Refusal.OutOfMemory) }
+    {
+        match self.table(ordinal) {
+            Some(table) => table.updates(alloc, ordinal, assignments, condition),
+            None => Ok(Items::new(alloc)),
+        }
+    }
+
+    // What a DELETE does.
+    fn removals(
+        &self,
+        alloc: Global,
         ordinal: usize,
         condition: &Option<Condition<usize>>,
     ) -> Result<Items<RowChange>, Refusal>
-        requires { (rows : List (List V)) → changes_over table.now write.now (filter (is_kept condition.now) rows) ≡ changes_over table.now write.now rows }
-        ensures ok { IfOk result (λ changes. changes_over table.now write.now (rows_of self.now.rows ordinal) ≡ Ok changes) }
-        ensures err { IfErr result (λ e. (e ≡ Refusal.OutOfMemory) ⊎ (changes_over table.now write.now (rows_of self.now.rows ordinal) ≡ Err e)) }
+        ensures ok { IfOk result (λ changes. changes ≡ map (Removed ordinal) (filter (is_kept condition.now) (rows_of self.now.rows ordinal))) }
+        ensures err { IfErr result (λ e. e ≡ Refusal.OutOfMemory) }
     {
-        let kept = self.kept(alloc, ordinal, condition);
-        match kept {
-            Ok(kept) => change_local(alloc, table, write, kept.as_slice()),
-            Err(e) => Err(e),
+        match self.table(ordinal) {
+            Some(table) => table.removals(alloc, ordinal, condition),
+            None => Ok(Items::new(alloc)),
         }
     }
 
@@ -357,12 +408,10 @@ impl StoredTables {
                 *ordinal,
                 new.as_slice(),
             ),
-            Write::Update(ordinal, _, condition) => {
-                self.changed(alloc, table, write, *ordinal, condition)
+            Write::Update(ordinal, assignments, condition) => {
+                self.updates(alloc, *ordinal, assignments.as_slice(), condition)
             }
-            Write::Delete(ordinal, condition) => self.changed(
-                alloc, table, write, *ordinal, condition,
-            ),
+            Write::Delete(ordinal, condition) => self.removals(alloc, *ordinal, condition),
         }
     }
 }

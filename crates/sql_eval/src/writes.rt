@@ -7,6 +7,7 @@ ghost use Rattle.sql_eval.specs.Writes.{assigned, row_updates, changes_over};
 use crate::duplicates::has_duplicate;
 use crate::filters::Filter;
 use crate::rows::same_row;
+use crate::source::{RowSource, SliceRows, next_passing};
 use sql_tree::{Assignment, Condition};
 use std::alloc::Global;
 use vschema::{RowChange, Table, Write};
@@ -19,25 +20,6 @@ fn added(alloc: Global, ordinal: usize, new: &[Row]) -> Result<Items<RowChange>,
     let mut changes = Items::from_vec(Vec::with_capacity(alloc, new.len())?);
     for row in new {
         changes.push(RowChange::Added(ordinal, copy_row(alloc, row)?))?;
-    }
-    Ok(changes)
-}
-
-fn removed(
-    alloc: Global,
-    ordinal: usize,
-    condition: &Option<Condition<usize>>,
-    rows: &[Row],
-) -> Result<Items<RowChange>, Refusal>
-    ensures ok { IfOk result (λ changes. changes ≡ map (Removed ordinal) (filter (is_kept condition.now) rows.now)) }
-    ensures err { IfErr result (λ e. e ≡ Refusal.OutOfMemory) }
-{
-    let filter = Filter::of(alloc, condition)?;
-    let mut changes = Items::new(alloc);
-    for row in rows {
-        if filter.keeps(row) {
-            changes.push(RowChange::Removed(ordinal, copy_row(alloc, row)?))?;
-        }
     }
     Ok(changes)
 }
@@ -75,29 +57,79 @@ fn row_update(
     Ok(Some(RowChange::Replaced(ordinal, copy_row(alloc, row)?, new)))
 }
 
-fn updated(
+// What an UPDATE does to the rows that come.
+fn updates<'a, S: RowSource<'a>>(
     alloc: Global,
     ordinal: usize,
     assignments: &[Assignment<usize>],
-    condition: &Option<Condition<usize>>,
-    rows: &[Row],
+    condition: &Filter,
+    rows: S,
 ) -> Result<Items<RowChange>, Refusal>
-    ensures ok { IfOk result (λ changes. changes ≡ flat_map (row_updates ordinal assignments.now condition.now) rows.now) }
+    ensures ok { IfOk result (λ changes. changes ≡ flat_map (row_updates ordinal assignments.now condition.now) (S.to_come rows)) }
     ensures err { IfErr result (λ e. e ≡ Refusal.OutOfMemory) }
 {
-    let filter = Filter::of(alloc, condition)?;
+    let mut rows = rows;
     let mut changes = Items::new(alloc);
-    for row in rows {
-        if let Some(change) = row_update(alloc, ordinal, assignments, &filter, row)? {
+    while let Some(row) = rows.next_row() {
+        if let Some(change) = row_update(alloc, ordinal, assignments, condition, row)? {
             changes.push(change)?;
         }
     }
     Ok(changes)
 }
 
+/// What an UPDATE does to the rows of its table that a source lends: those whose condition is true are replaced, if their values really
+/// change. No other row is copied. Refuses only for want of memory.
+pub fn updates_from<'a, S: RowSource<'a>>(
+    alloc: Global,
+    ordinal: usize,
+    assignments: &[Assignment<usize>],
+    condition: &Option<Condition<usize>>,
+    rows: S,
+) -> Result<Items<RowChange>, Refusal>
+    ensures ok { IfOk result (λ changes. changes ≡ flat_map (row_updates ordinal assignments.now condition.now) (S.to_come rows)) }
+    ensures err { IfErr result (λ e. e ≡ Refusal.OutOfMemory) }
+{
+    let filter = Filter::of(alloc, condition)?;
+    updates(alloc, ordinal, assignments, &filter, rows)
+}
+
+// What a DELETE does to the rows that come.
+fn removals<'a, S: RowSource<'a>>(
+    alloc: Global,
+    ordinal: usize,
+    condition: &Filter,
+    rows: S,
+) -> Result<Items<RowChange>, Refusal>
+    ensures ok { IfOk result (λ changes. changes ≡ map (Removed ordinal) (filter (is_kept condition.now) (S.to_come rows))) }
+    ensures err { IfErr result (λ e. e ≡ Refusal.OutOfMemory) }
+{
+    let mut rows = rows;
+    let mut changes = Items::new(alloc);
+    while let Some(row) = next_passing(condition, &mut rows) {
+        changes.push(RowChange::Removed(ordinal, copy_row(alloc, row)?))?;
+    }
+    Ok(changes)
+}
+
+/// What a DELETE does to the rows of its table that a source lends: those whose condition is true are removed. No other row is copied.
+/// Refuses only for want of memory.
+pub fn removals_from<'a, S: RowSource<'a>>(
+    alloc: Global,
+    ordinal: usize,
+    condition: &Option<Condition<usize>>,
+    rows: S,
+) -> Result<Items<RowChange>, Refusal>
+    ensures ok { IfOk result (λ changes. changes ≡ map (Removed ordinal) (filter (is_kept condition.now) (S.to_come rows))) }
+    ensures err { IfErr result (λ e. e ≡ Refusal.OutOfMemory) }
+{
+    let filter = Filter::of(alloc, condition)?;
+    removals(alloc, ordinal, &filter, rows)
+}
+
 // Promise: What a write does to the rows of its table, or F12 exactly when an INSERT has a primary key twice; rows are the same if they
 // compare as equal
-// With: same_row
+// With: same_row, updates_from, removals_from
 /// What a write does to the rows of its table: rows added, removed or really changed. Refuses `DuplicateKey` if an INSERT
 /// has the primary key of a row that is there, or one twice, and else only for want of memory.
 pub fn change_local(
@@ -118,8 +150,11 @@ pub fn change_local(
             added(alloc, *ordinal, new.as_slice())
         }
         Write::Update(ordinal, assignments, condition) => {
-            updated(alloc, *ordinal, assignments.as_slice(), condition, rows)
+            let rows = SliceRows::new(rows);
+            updates_from(alloc, *ordinal, assignments.as_slice(), condition, rows)
         }
-        Write::Delete(ordinal, condition) => removed(alloc, *ordinal, condition, rows),
+        Write::Delete(ordinal, condition) => {
+            removals_from(alloc, *ordinal, condition, SliceRows::new(rows))
+        }
     }
 }

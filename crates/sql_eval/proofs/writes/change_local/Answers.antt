@@ -12,5 +12,6 @@ returns-else-has-clause-ok c =
 
 pub returns-in-Delete-clause-ok : goal.returns-in-Delete-clause-ok
 returns-in-Delete-clause-ok c =
-    IfOk-weaker c.removed.result _ _
-    (λ changes is. deletes c.args.table.now c.args.write.now c.in-Delete.ordinal c.in-Delete.condition c.args.rows.now changes c.in-Delete.is is) c.removed.ensures.ok
+    let removed = rw c.new.ensures at c.removals_from.ensures.ok in
+    IfOk-weaker c.removals_from.result _ _
+    (λ changes is. deletes c.args.table.now c.args.write.now c.in-Delete.ordinal c.in-Delete.condition c.args.rows.now changes c.in-Delete.is is) removed
