@@ -4,10 +4,10 @@ use Rattle.std.proofs.lemmas.Bool.{false≢true}
 use Rattle.std.specs.Cmp.{IsTotalOrder}
 use Rattle.std.specs.declared.cmp.Ordering.{Ordering}
 use Rattle.std.specs.declared.sync.Arc.{Arc}
-use Rattle.std.specs.Map.{lookup, set_value, remove_entry}
+use Rattle.std.specs.Map.{lookup, remove_entry}
 use Rattle.std.specs.BTreeMap.{insert_entry, is_at}
 use Rattle.row_chunks.specs.Chunks.{ChunkView, all_of, content, changeable_in}
-use Rattle.row_chunks.proofs.Changes.{open_all, length_inserted, length_removed, length_set}
+use Rattle.row_chunks.proofs.Changes.{open_all, length_inserted, length_removed}
 
 module _ {K X : Type 0} {cmp : K → K → Ordering} (o : IsTotalOrder cmp) where
   -- an entry that can be changed is in chunks that aren't shared
@@ -16,11 +16,6 @@ module _ {K X : Type 0} {cmp : K → K → Ordering} (o : IsTotalOrder cmp) wher
   count_removed own new None test count h e is =
       is ∙ (sym (length_removed o test (all_of own) (open_all o test own h)) ∙ ap (λ (es : List (K × X)). length es + 1) (sym e))
   count_removed own new (Some s) test count h e is = absurd (false≢true h)
-
-  pub count_set : {Z : Type 0} (own new : List (ChunkView K X)) (shared : Option (Arc (List (ChunkView K X)) Z)) (test : K → Bool) (v : X) (count : ℕ) → IsSome (lookup test (changeable_in own shared))
-      → all_of new ≡ set_value test (all_of own) v → count ≡ length (all_of (content own shared)) → count ≡ length (all_of (content new shared))
-  count_set own new None test v count h e is = is ∙ (sym (length_set o test (all_of own) v) ∙ ap (λ (es : List (K × X)). length es) (sym e))
-  count_set own new (Some s) test v count h e is = absurd (false≢true h)
 
   pub count_inserted : {Z : Type 0} (es : List (K × X)) (own new : List (ChunkView K X)) (shared : Option (Arc (List (ChunkView K X)) Z)) (k : K) (v : X) (count : ℕ) → shared ≡ None
       → all_of (content own shared) ≡ es → all_of new ≡ insert_entry cmp (all_of own) k v → lookup (is_at (cmp k)) es ≡ None → count ≡ length es → count + 1 ≡ length (all_of (content new shared))

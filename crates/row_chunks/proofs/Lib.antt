@@ -3,3 +3,4 @@ mod Copies
 mod Shelf
 mod Counts
 pub mod Dropped
+pub mod Exchanges

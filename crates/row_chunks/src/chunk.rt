@@ -1,4 +1,4 @@
-ghost use Rattle.std.specs.Prelude.{◌≡◌, [], IfOk, OnOk, OnErr, IfSome, IfNone, IsTrue, IsSome, is_some, option_copied, true, false};
+ghost use Rattle.std.specs.Prelude.{◌≡◌, [], IfOk, IfErr, OnOk, OnErr, IfSome, IfNone, IsTrue, IsSome, Some, None, is_some, option_copied, true, false, if◌then◌else◌};
 ghost use Rattle.std.specs.Map.{keys_of, lookup, set_value, remove_entry};
 ghost use Rattle.std.specs.BTreeMap.{insert_entry, is_at};
 ghost use Rattle.std.specs.List.Sorted.{IsStrictlySortedBy};
@@ -9,6 +9,7 @@ ghost use Rattle.row_chunks.specs.inner.Splits.{IsSplit};
 
 use std::alloc::{AllocError, Global};
 use std::collections::BTreeMap;
+use std::collections::btree_map::Entry;
 use std::marker::Model;
 use std::mem;
 use std::sync::Arc;
@@ -86,6 +87,23 @@ impl<K: Ord + Same, V: Same> Chunk<K, V> {
         }
     }
 
+    // Whether its keys end before a key: where rows are added in the order of their keys, that is known without a search.
+    fn ends_before(&self, key: &K) -> bool
+        ensures { IsTrue result → lookup (is_at (K.cmp key.now)) self.now.entries ≡ None }
+    {
+        match self.rows().last_key_value() {
+            Some((last, _)) => last.cmp(key).is_lt(),
+            None => false,
+        }
+    }
+
+    /// Whether a key has a value.
+    pub fn contains_key(&self, key: &K) -> bool
+        ensures { result ≡ is_some (lookup (is_at (K.cmp key.now)) self.now.entries) }
+    {
+        !self.ends_before(key) && self.rows().contains_key(key)
+    }
+
     /// Has it begin at a lower key.
     pub fn begin_at(&mut self, from: K)
         ensures from { self.new.from ≡ from }
@@ -161,16 +179,47 @@ impl<K: Ord + Same, V: Same> Chunk<K, V> {
         Ok(())
     }
 
-    /// Gives a key that it has another value. Takes no memory.
-    pub fn set(&mut self, key: &K, value: V)
-        requires open { self.old.is_open ≡ true }
-        requires there { IsSome (lookup (is_at (K.cmp key.now)) self.old.entries) }
+    /// Puts an entry in, unless the key has one; tells whether it has. Refuses for want of memory.
+    pub fn reserve(&mut self, key: K, value: V) -> Result<bool, AllocError>
+        requires { self.old.is_open ≡ true }
         ensures from { self.new.from ≡ self.old.from }
         ensures open { self.new.is_open ≡ true }
-        ensures entries { self.new.entries ≡ set_value (is_at (K.cmp key.now)) self.old.entries value }
+        ensures there { IfOk result (λ there. there ≡ is_some (lookup (is_at (K.cmp key)) self.old.entries)) }
+        ensures ok { IfOk result (λ there. self.new.entries ≡ (if there then self.old.entries else insert_entry K.cmp self.old.entries key value)) }
+        ensures unchanged { OnErr result (self.new.entries ≡ self.old.entries) }
     {
-        let place = self.own.get_mut(key).unwrap();
-        *place = value;
+        let Ok(entry) = self.own.entry(key) else {
+            return Err(AllocError);
+        };
+        let vacant = match entry {
+            Entry::Vacant(vacant) => vacant,
+            Entry::Occupied(occupied) => {
+                occupied.into_mut();
+                return Ok(true);
+            }
+        };
+        vacant.insert(value);
+        Ok(false)
+    }
+
+    /// Gives a key that it has another value, and gives the former one; gives the value back, if the key has none that can be changed.
+    /// Takes no memory.
+    pub fn exchange(&mut self, key: &K, value: V) -> Result<V, V>
+        ensures from { self.new.from ≡ self.old.from }
+        ensures open { self.new.is_open ≡ self.old.is_open }
+        ensures former { IfOk result (λ v. lookup (is_at (K.cmp key.now)) self.old.entries ≡ Some v) }
+        ensures entries { OnOk result (self.new.entries ≡ set_value (is_at (K.cmp key.now)) self.old.entries value) }
+        ensures err { IfErr result (λ v. v ≡ value) }
+        ensures none { OnErr result (lookup (is_at (K.cmp key.now)) (changeable self.old) ≡ None) }
+        ensures unchanged { OnErr result (self.new.entries ≡ self.old.entries) }
+    {
+        if !self.is_open {
+            return Err(value);
+        }
+        match self.own.get_mut(key) {
+            Some(place) => Ok(mem::replace(place, value)),
+            None => Err(value),
+        }
     }
 
     /// How many entries it has.

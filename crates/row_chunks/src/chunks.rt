@@ -1,4 +1,4 @@
-ghost use Rattle.std.specs.Prelude.{true, ◌≡◌, ◌+◌, ◌<◌, ◌≤◌, [], IfOk, OnOk, OnErr, IfSome, MatchOption, IsTrue, IsSome, Some, is_some, option_copied, slice_index_or, length};
+ghost use Rattle.std.specs.Prelude.{true, ◌≡◌, ◌+◌, ◌<◌, ◌≤◌, [], None, Some, if◌then◌else◌, IfOk, IfErr, OnOk, OnErr, IfSome, MatchOption, IsTrue, IsSome, Some, is_some, option_copied, slice_index_or, length};
 ghost use Rattle.std.specs.Map.{keys_of, lookup, set_value, remove_entry};
 ghost use Rattle.std.specs.BTreeMap.{insert_entry, is_at};
 ghost use Rattle.std.specs.BTreeMap.Range.{entries_between};
@@ -78,6 +78,16 @@ impl<K: Ord + Same, V: Same> Chunks<K, V> {
         match self.place_of(key) {
             Some(place) => self.list[place].rows().get(key),
             None => None,
+        }
+    }
+
+    /// Whether a key has a value.
+    pub fn contains_key(&self, key: &K) -> bool
+        ensures { result ≡ is_some (lookup (is_at (K.cmp key.now)) (all_of self.now)) }
+    {
+        match self.place_of(key) {
+            Some(place) => self.list[place].contains_key(key),
+            None => false,
         }
     }
 
@@ -167,22 +177,51 @@ impl<K: Ord + Same, V: Same> Chunks<K, V> {
         }
     }
 
-    // Puts an entry into the chunk that its key belongs into.
-    fn insert_at(&mut self, place: usize, key: K, value: V) -> Result<(), AllocError>
+    // Puts an entry into the chunk that its key belongs into, unless the key has one; tells whether it has.
+    fn reserve_at(&mut self, place: usize, key: K, value: V) -> Result<bool, AllocError>
         requires there { begun K.cmp key self.old ≡ place + 1 }
         requires fits { place < length self.old }
         requires open { (c : ChunkView K V) → slice_index_or self.old place c ≡ c → c.is_open ≡ true }
-        ensures ok { OnOk result (all_of self.new ≡ insert_entry K.cmp (all_of self.old) key value) }
+        ensures there { IfOk result (λ there. there ≡ is_some (lookup (is_at (K.cmp key)) (all_of self.old))) }
+        ensures ok { IfOk result (λ there. all_of self.new ≡ (if there then all_of self.old else insert_entry K.cmp (all_of self.old) key value)) }
         ensures err { OnErr result (all_of self.new ≡ all_of self.old) }
         ensures open { OnOk result (IsSome (lookup (is_at (K.cmp key)) (open_of self.new))) }
         ensures kept { (k : K) → IsSome (lookup (is_at (K.cmp k)) (open_of self.old)) → IsSome (lookup (is_at (K.cmp k)) (open_of self.new)) }
     {
-        self.list[place].insert(key, value)
+        self.list[place].reserve(key, value)
     }
 
-    /// Puts an entry in, and makes its chunk changeable. Refuses for want of memory; then the entries are as they were.
-    pub fn insert(&mut self, alloc: Global, key: K, value: V) -> Result<(), AllocError>
-        ensures ok { OnOk result (all_of self.new ≡ insert_entry K.cmp (all_of self.old) key value) }
+    // Makes a chunk changeable, and puts an entry into it, as `reserve_at`.
+    fn reserve_in(
+        &mut self,
+        alloc: Global,
+        place: usize,
+        key: K,
+        value: V,
+    ) -> Result<bool, AllocError>
+        requires there { begun K.cmp key self.old ≡ place + 1 }
+        requires fits { place < length self.old }
+        ensures there { IfOk result (λ there. there ≡ is_some (lookup (is_at (K.cmp key)) (all_of self.old))) }
+        ensures ok { IfOk result (λ there. all_of self.new ≡ (if there then all_of self.old else insert_entry K.cmp (all_of self.old) key value)) }
+        ensures err { OnErr result (all_of self.new ≡ all_of self.old) }
+        ensures open { OnOk result (IsSome (lookup (is_at (K.cmp key)) (open_of self.new))) }
+        ensures kept { (k : K) → IsSome (lookup (is_at (K.cmp k)) (open_of self.old)) → IsSome (lookup (is_at (K.cmp k)) (open_of self.new)) }
+    {
+        self.open_at(alloc, place)?;
+        self.reserve_at(place, key, value)
+    }
+
+    // Whether a chunk has so many entries that it is to be made two before it gets one more.
+    fn is_long(&self, place: usize) -> bool
+        requires { place < length self.now }
+    {
+        self.list[place].len() >= MOST
+    }
+
+    // Has a chunk that isn't long begin at a key or before it, where the key's one is long or there is none, and puts an entry into it.
+    fn reserve_apart(&mut self, alloc: Global, key: K, value: V) -> Result<bool, AllocError>
+        ensures there { IfOk result (λ there. there ≡ is_some (lookup (is_at (K.cmp key)) (all_of self.old))) }
+        ensures ok { IfOk result (λ there. all_of self.new ≡ (if there then all_of self.old else insert_entry K.cmp (all_of self.old) key value)) }
         ensures err { OnErr result (all_of self.new ≡ all_of self.old) }
         ensures open { OnOk result (IsSome (lookup (is_at (K.cmp key)) (open_of self.new))) }
         ensures kept { (k : K) → IsSome (lookup (is_at (K.cmp k)) (open_of self.old)) → IsSome (lookup (is_at (K.cmp k)) (open_of self.new)) }
@@ -190,26 +229,24 @@ impl<K: Ord + Same, V: Same> Chunks<K, V> {
         self.part_for(alloc, &key)?;
         self.reach(alloc, &key)?;
         match self.place_of(&key) {
-            Some(place) => {
-                self.open_at(alloc, place)?;
-                self.insert_at(place, key, value)
-            }
+            Some(place) => self.reserve_in(alloc, place, key, value),
             None => Err(AllocError),
         }
     }
 
-    /// Makes the entry of a key changeable, and tells whether it is there. Refuses for want of memory; then the entries are as they were.
-    pub fn open(&mut self, alloc: Global, key: &K) -> Result<bool, AllocError>
-        ensures all { all_of self.new ≡ all_of self.old }
-        ensures there { IfOk result (λ there. there ≡ is_some (lookup (is_at (K.cmp key.now)) (all_of self.old))) }
-        ensures ok { OnOk result (IsSome (lookup (is_at (K.cmp key.now)) (all_of self.old)) → IsSome (lookup (is_at (K.cmp key.now)) (open_of self.new))) }
+    /// Makes the entry of a key changeable: the one that is there, or one with this value; tells whether one was there. Refuses for want of
+    /// memory; then the entries are as they were.
+    pub fn reserve(&mut self, alloc: Global, key: K, value: V) -> Result<bool, AllocError>
+        ensures there { IfOk result (λ there. there ≡ is_some (lookup (is_at (K.cmp key)) (all_of self.old))) }
+        ensures ok { IfOk result (λ there. all_of self.new ≡ (if there then all_of self.old else insert_entry K.cmp (all_of self.old) key value)) }
+        ensures err { OnErr result (all_of self.new ≡ all_of self.old) }
+        ensures open { OnOk result (IsSome (lookup (is_at (K.cmp key)) (open_of self.new))) }
         ensures kept { (k : K) → IsSome (lookup (is_at (K.cmp k)) (open_of self.old)) → IsSome (lookup (is_at (K.cmp k)) (open_of self.new)) }
     {
-        let Some(place) = self.place_of(key) else {
-            return Ok(false);
-        };
-        self.open_at(alloc, place)?;
-        Ok(self.list[place].rows().contains_key(key))
+        match self.place_of(&key) {
+            Some(place) if !self.is_long(place) => self.reserve_in(alloc, place, key, value),
+            _ => self.reserve_apart(alloc, key, value),
+        }
     }
 
     /// The value of a key, if it has one that can be changed.
@@ -235,14 +272,34 @@ impl<K: Ord + Same, V: Same> Chunks<K, V> {
         self.begun(key) - 1
     }
 
-    /// Gives the changeable entry of a key another value. Takes no memory.
-    pub fn set(&mut self, key: &K, value: V)
-        requires { IsSome (lookup (is_at (K.cmp key.now)) (open_of self.old)) }
-        ensures all { all_of self.new ≡ set_value (is_at (K.cmp key.now)) (all_of self.old) value }
+    // `exchange` in the chunk that a key belongs into.
+    fn exchange_at(&mut self, place: usize, key: &K, value: V) -> Result<V, V>
+        requires there { begun K.cmp key.now self.old ≡ place + 1 }
+        requires fits { place < length self.old }
+        ensures former { IfOk result (λ v. lookup (is_at (K.cmp key.now)) (all_of self.old) ≡ Some v) }
+        ensures all { OnOk result (all_of self.new ≡ set_value (is_at (K.cmp key.now)) (all_of self.old) value) }
+        ensures err { IfErr result (λ v. v ≡ value) }
+        ensures none { OnErr result (lookup (is_at (K.cmp key.now)) (open_of self.old) ≡ None) }
+        ensures unchanged { OnErr result (all_of self.new ≡ all_of self.old) }
         ensures kept { (k : K) → IsSome (lookup (is_at (K.cmp k)) (open_of self.old)) → IsSome (lookup (is_at (K.cmp k)) (open_of self.new)) }
     {
-        let place = self.open_place(key);
-        self.list[place].set(key, value);
+        self.list[place].exchange(key, value)
+    }
+
+    /// Gives the entry of a key another value, and gives the former one; gives the value back, if the key has none that can be changed.
+    /// Takes no memory.
+    pub fn exchange(&mut self, key: &K, value: V) -> Result<V, V>
+        ensures former { IfOk result (λ v. lookup (is_at (K.cmp key.now)) (all_of self.old) ≡ Some v) }
+        ensures all { OnOk result (all_of self.new ≡ set_value (is_at (K.cmp key.now)) (all_of self.old) value) }
+        ensures err { IfErr result (λ v. v ≡ value) }
+        ensures none { OnErr result (lookup (is_at (K.cmp key.now)) (open_of self.old) ≡ None) }
+        ensures unchanged { OnErr result (all_of self.new ≡ all_of self.old) }
+        ensures kept { (k : K) → IsSome (lookup (is_at (K.cmp k)) (open_of self.old)) → IsSome (lookup (is_at (K.cmp k)) (open_of self.new)) }
+    {
+        match self.place_of(key) {
+            Some(place) => self.exchange_at(place, key, value),
+            None => Err(value),
+        }
     }
 
     // Takes the changeable entry of a key out of its chunk, and tells which chunk that is.

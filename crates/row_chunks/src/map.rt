@@ -1,4 +1,4 @@
-ghost use Rattle.std.specs.Prelude.{◌≡◌, ◌<◌, ◌^◌, [], None, Some, IfOk, IfErr, IfSome, OnOk, OnErr, IsSome, option_copied, is_some, length};
+ghost use Rattle.std.specs.Prelude.{◌≡◌, ◌<◌, ◌^◌, [], None, Some, if◌then◌else◌, IfOk, IfErr, IfSome, OnOk, OnErr, IsSome, option_copied, is_some, length};
 ghost use Rattle.std.specs.Map.{keys_of, lookup, set_value, remove_entry};
 ghost use Rattle.std.specs.BTreeMap.{insert_entry, is_at};
 ghost use Rattle.std.specs.BTreeMap.Range.{entries_between};
@@ -83,7 +83,7 @@ impl<K: Ord + Same, V: Same> ChunkMap<K, V> {
     pub fn contains_key(&self, key: &K) -> bool
         ensures { result ≡ is_some (lookup (is_at (K.cmp key.now)) self.now.entries) }
     {
-        self.get(key).is_some()
+        self.chunks().contains_key(key)
     }
 
     /// The value of a key, if it has one that can be changed without memory.
@@ -111,10 +111,10 @@ impl<K: Ord + Same, V: Same> ChunkMap<K, V> {
         self.chunks().walk_from(key)
     }
 
-    /// Puts an entry in, and makes it changeable. Refuses for want of memory, or where there is no room; then the entries are as they were.
-    pub fn insert(&mut self, alloc: Global, key: K, value: V) -> Result<(), AllocError>
-        requires { lookup (is_at (K.cmp key)) self.old.entries ≡ None }
-        ensures ok { OnOk result (self.new.entries ≡ insert_entry K.cmp self.old.entries key value) }
+    /// Makes the entry of a key changeable: the one that is there, or one with this value. Refuses for want of memory, or where there is no
+    /// room; then the entries are as they were.
+    pub fn reserve(&mut self, alloc: Global, key: K, value: V) -> Result<(), AllocError>
+        ensures ok { OnOk result (self.new.entries ≡ (if is_some (lookup (is_at (K.cmp key)) self.old.entries) then self.old.entries else insert_entry K.cmp self.old.entries key value)) }
         ensures err { OnErr result (self.new.entries ≡ self.old.entries) }
         ensures open { OnOk result (IsSome (lookup (is_at (K.cmp key)) self.new.ready)) }
         ensures kept { (k : K) → IsSome (lookup (is_at (K.cmp k)) self.old.ready) → IsSome (lookup (is_at (K.cmp k)) self.new.ready) }
@@ -123,29 +123,26 @@ impl<K: Ord + Same, V: Same> ChunkMap<K, V> {
             return Err(AllocError);
         }
         own_chunks(alloc, &mut self.own, &mut self.shared)?;
-        self.own.insert(alloc, key, value)?;
-        self.count += 1;
+        if !self.own.reserve(alloc, key, value)? {
+            self.count += 1;
+        }
         Ok(())
     }
 
-    /// Makes the entry of a key changeable, and tells whether it is there. Refuses for want of memory; then the entries are as they were.
-    pub fn open(&mut self, alloc: Global, key: &K) -> Result<bool, AllocError>
-        ensures entries { self.new.entries ≡ self.old.entries }
-        ensures there { IfOk result (λ there. there ≡ is_some (lookup (is_at (K.cmp key.now)) self.old.entries)) }
-        ensures ok { OnOk result (IsSome (lookup (is_at (K.cmp key.now)) self.old.entries) → IsSome (lookup (is_at (K.cmp key.now)) self.new.ready)) }
+    /// Gives the entry of a key another value, and gives the former one; gives the value back, if the key has none that can be changed.
+    /// Takes no memory.
+    pub fn exchange(&mut self, key: &K, value: V) -> Result<V, V>
+        ensures former { IfOk result (λ v. lookup (is_at (K.cmp key.now)) self.old.entries ≡ Some v) }
+        ensures entries { OnOk result (self.new.entries ≡ set_value (is_at (K.cmp key.now)) self.old.entries value) }
+        ensures err { IfErr result (λ v. v ≡ value) }
+        ensures none { OnErr result (lookup (is_at (K.cmp key.now)) self.old.ready ≡ None) }
+        ensures unchanged { OnErr result (self.new.entries ≡ self.old.entries) }
         ensures kept { (k : K) → IsSome (lookup (is_at (K.cmp k)) self.old.ready) → IsSome (lookup (is_at (K.cmp k)) self.new.ready) }
     {
-        own_chunks(alloc, &mut self.own, &mut self.shared)?;
-        self.own.open(alloc, key)
-    }
-
-    /// Gives the changeable entry of a key another value. Takes no memory.
-    pub fn set(&mut self, key: &K, value: V)
-        requires { IsSome (lookup (is_at (K.cmp key.now)) self.old.ready) }
-        ensures entries { self.new.entries ≡ set_value (is_at (K.cmp key.now)) self.old.entries value }
-        ensures kept { (k : K) → IsSome (lookup (is_at (K.cmp k)) self.old.ready) → IsSome (lookup (is_at (K.cmp k)) self.new.ready) }
-    {
-        self.own.set(key, value);
+        match &self.shared {
+            Some(_) => Err(value),
+            None => self.own.exchange(key, value),
+        }
     }
 
     /// Takes the changeable entry of a key out. Takes no memory.

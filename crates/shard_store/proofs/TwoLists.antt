@@ -67,39 +67,17 @@ pub replaced_before : (old new : Row) (xs ys zs : List Row) → list_any (same_r
 replaced_before old new xs ys zs any h =
     subst (λ (l : List Row). IsPermutation (zs ++ ys) (l ++ new ∷ [])) (sym (without_left old xs ys any)) (added_before new (without old xs) ys zs h)
 
--- ---- a slot with another row
-any_after : (p : Row → Bool) (o : Option Row) (ys : List Row) → list_any p ys ≡ true → list_any p (option_to_list o ++ ys) ≡ true
-any_after p None ys h = h
-any_after p (Some r) ys h = by (p r) refl
+-- ---- a row in another's place
+pub row_exchanged : (old new : Row) (before after : List Row) → list_any (same_row old) before ≡ true → IsPermutation (old ∷ after) (new ∷ before)
+    → IsPermutation after (without old before ++ new ∷ [])
+row_exchanged old new before after there h =
+    let turned : IsPermutation (old ∷ after) (before ++ new ∷ []) =
+    IsPermutation-trans _ _ _ h (IsPermutation-sym (before ++ new ∷ []) (new ∷ before) (IsPermutation-to_front before new)) in
+    subst (IsPermutation after) (without_left old before (new ∷ []) there)
+    (subst (λ (l : List Row). IsPermutation l (without old (before ++ new ∷ []))) (first (same_row old old) (same_self old))
+    (without-same old (old ∷ after) (before ++ new ∷ []) turned))
   where
-    by : (b : Bool) → p r ≡ b → (p r || list_any p ys) ≡ true
-    by true t = simp t
-    by false t = simp (t, h)
-
-row_there : (k : RowKey) (slots : List Slot) (row : Row) → slot_at slots k ≡ Some (Some row) → list_any (same_row row) (rows_in slots) ≡ true
-row_there k [] row h = absurd (cc h)
-row_there k (e ∷ slots) row h = by (row_there k slots row) (is_eq (row_key_cmp k e.0)) refl
-  where
-    by : (slot_at slots k ≡ Some (Some row) → list_any (same_row row) (rows_in slots) ≡ true) → (b : Bool) → is_eq (row_key_cmp k e.0) ≡ b
-        → list_any (same_row row) (option_to_list e.1 ++ rows_in slots) ≡ true
-    by ih true t =
-        let g : Some e.1 ≡ Some (Some row) = rw t at h in
-        let own = same_self row in
-        subst (λ (o : Option Row). list_any (same_row row) (option_to_list o ++ rows_in slots) ≡ true) (sym (some_is g)) (simp own)
-    by ih false t =
-        let g : slot_at slots k ≡ Some (Some row) = rw t at h in
-        any_after (same_row row) e.1 (rows_in slots) (ih g)
-
-pub row_exchanged : (k : RowKey) (before after : List Slot) (old new : Row) → slot_at before k ≡ Some (Some old) → IsPermutation (old ∷ rows_in after) (new ∷ rows_in before)
-    → IsPermutation (rows_in after) (without old (rows_in before) ++ new ∷ [])
-row_exchanged k before after old new there h =
-    let turned : IsPermutation (old ∷ rows_in after) (rows_in before ++ new ∷ []) =
-    IsPermutation-trans _ _ _ h (IsPermutation-sym (rows_in before ++ new ∷ []) (new ∷ rows_in before) (IsPermutation-to_front (rows_in before) new)) in
-    subst (IsPermutation (rows_in after)) (without_left old (rows_in before) (new ∷ []) (row_there k before old there))
-    (subst (λ (l : List Row). IsPermutation l (without old (rows_in before ++ new ∷ []))) (first (same_row old old) (same_self old))
-    (without-same old (old ∷ rows_in after) (rows_in before ++ new ∷ []) turned))
-  where
-    first : (b : Bool) → b ≡ true → cond b (rows_in after) (old ∷ without old (rows_in after)) ≡ rows_in after
+    first : (b : Bool) → b ≡ true → cond b after (old ∷ without old after) ≡ after
     first true e = refl
     first false e = cc
 

@@ -34,10 +34,3 @@ IsAtItsKey ordinals s = (row : Row) → s.1 ≡ Some row → s.0.values ≡ key_
 pub record IsStored (ordinals : List ℕ) (slots : List Slot) (count : ℕ) : Type 0 where
   pub keyed : AllByRecursion (IsAtItsKey ordinals) slots
   pub counted : count ≡ length (rows_in slots)
-
--- a table that has a slot for the row, which is ready, can take it with these rows: no row of them has its key
-pub record CanTake (t : TableView) (key : RowKey) (row : Row) (rows : List Row) : Type 0 where
-  pub at : key.values ≡ key_at t.ordinals row
-  pub slot : IsSome (slot_at t.slots key)
-  pub ready : IsSome (slot_at t.ready key)
-  pub absent : list_any (has_key t.ordinals key.values) rows ≡ false

@@ -92,6 +92,13 @@ impl SlotRow {
             None => None,
         }
     }
+
+    /// The row itself, if there is one.
+    pub fn into_row(self) -> Option<SharedRow>
+        ensures { result ≡ self }
+    {
+        self.row
+    }
 }
 
 impl Clone for SlotRow {

@@ -1,12 +1,13 @@
 //! The rows of a table whose keys differ, each in the slot of its key.
-ghost use Rattle.std.specs.Prelude.{◌≡◌, ◌<◌, ◌^◌, ◌&&◌, not, ◌++◌, ◌∷◌, [], IsSome, IsTrue, IfOk, IfErr, OnOk, OnErr, IsPermutation, Some, List, option_to_list, option_copied, filter, length, slice_index, is_some, if◌then◌else◌};
+ghost use Rattle.std.specs.Prelude.{◌≡◌, ◌<◌, ◌^◌, ◌&&◌, not, ◌++◌, ◌∷◌, [], IsSome, IsTrue, IfOk, IfErr, OnOk, OnErr, IsPermutation, Some, None, List, option_to_list, option_copied, filter, length, slice_index, is_some, if◌then◌else◌};
 ghost use Rattle.std.specs.List.{AllByRecursion, list_any};
 ghost use Rattle.vt_value.specs.declared.value.Value.{Value as V};
 ghost use Rattle.vt_value.specs.Values.{value_at};
 ghost use Rattle.vschema.specs.Database.{same_row, without};
 ghost use Rattle.shard_store.specs.Slots.{rows_in, slot_at, row_at, slots_from, with_slot, without_slot};
-ghost use Rattle.shard_store.specs.Tables.{key_at, has_key, begins_with, IsAtItsKey, CanTake};
+ghost use Rattle.shard_store.specs.Tables.{key_at, has_key, begins_with, IsAtItsKey};
 ghost use Rattle.shard_store.specs.Chosen.{is_among};
+ghost use Rattle.shard_store.specs.inner.Slots.{is_row};
 ghost use Rattle.shard_store.specs.RowsAfter.{comes_after, IsInOrder};
 
 use crate::key::RowKey;
@@ -217,7 +218,9 @@ impl StoredTable {
     pub fn contains(&self, key: &RowKey) -> bool
         ensures { result ≡ list_any (has_key self.now.ordinals key.now.values) (rows_in self.now.slots) }
     {
-        self.get(key).is_some()
+        let _slots = self.slots.len();
+        // mostly the key of a new row has no slot
+        self.slots.has(key) && self.get(key).is_some()
     }
 
     /// Whether this row, whose key is given, is there.
@@ -228,15 +231,6 @@ impl StoredTable {
     {
         let _slots = self.slots.len();
         self.slots.holds(key, row)
-    }
-
-    /// Whether a key has a slot that is ready, and no row.
-    pub fn can_take(&self, key: &RowKey) -> bool
-        ensures is { result ≡ (is_some (slot_at self.now.ready key.now) && not (list_any (has_key self.now.ordinals key.now.values) (rows_in self.now.slots))) }
-        ensures slot { IsTrue result → IsSome (slot_at self.now.slots key.now) }
-    {
-        let _slots = self.slots.len();
-        self.slots.is_idle(key)
     }
 
     /// Makes a slot for a key, if it has none, and has it ready. Refuses for want of memory; the slots stay as they are.
@@ -289,18 +283,28 @@ impl StoredTable {
         })
     }
 
-    /// Adds a row whose key has a slot that is ready, and no row. Takes no memory.
-    pub fn add(&mut self, key: &RowKey, row: SharedRow)
-        requires { CanTake self.old key.now row (rows_in self.old.slots) }
-        ensures rows { IsPermutation (rows_in self.new.slots) (rows_in self.old.slots ++ row ∷ []) }
-        ensures kept { (k : RowKey) → IsSome (slot_at self.old.slots k) → IsSome (slot_at self.new.slots k) }
+    /// Puts a row into the slot of its key, and gives the one that the slot had; gives the row back, if the key has no slot that is ready.
+    /// Takes no memory.
+    pub fn put(&mut self, key: &RowKey, row: SharedRow) -> Result<Option<SharedRow>, SharedRow>
+        requires { key.now.values ≡ key_at self.old.ordinals row }
+        ensures rows { IfOk result (λ former. IsPermutation (option_to_list former ++ rows_in self.new.slots) (row ∷ rows_in self.old.slots)) }
+        ensures former { IfOk result (λ former. (r : List V) → key.now.values ≡ key_at self.old.ordinals r → list_any (same_row r) (rows_in self.old.slots) ≡ is_row r former) }
+        ensures err { IfErr result (λ r. r ≡ row) }
+        ensures none { OnErr result (slot_at self.old.ready key.now ≡ None) }
+        ensures unchanged { OnErr result (self.new.slots ≡ self.old.slots) }
         ensures still { (k : RowKey) → IsSome (slot_at self.old.ready k) → IsSome (slot_at self.new.ready k) }
         ensures ordinals { self.new.ordinals ≡ self.old.ordinals }
     {
         let _before = self.slots.len();
-        self.slots.add(key, row);
+        let former = match self.slots.put(key, row) {
+            Ok(former) => former,
+            Err(row) => return Err(row),
+        };
         let _after = self.slots.len();
-        self.count += 1;
+        if former.is_none() {
+            self.count += 1;
+        }
+        Ok(former)
     }
 
     /// Removes a row, if it is there, whose key's slot is ready; the slot stays. Takes no memory.
@@ -308,7 +312,6 @@ impl StoredTable {
         requires key { key.now.values ≡ key_at self.old.ordinals row.now }
         requires ready { IsSome (slot_at self.old.ready key.now) }
         ensures rows { IsPermutation (rows_in self.new.slots) (without row.now (rows_in self.old.slots)) }
-        ensures kept { (k : RowKey) → IsSome (slot_at self.old.slots k) → IsSome (slot_at self.new.slots k) }
         ensures still { (k : RowKey) → IsSome (slot_at self.old.ready k) → IsSome (slot_at self.new.ready k) }
         ensures ordinals { self.new.ordinals ≡ self.old.ordinals }
     {
@@ -317,17 +320,5 @@ impl StoredTable {
             self.slots.take(key);
             self.count -= 1;
         }
-    }
-
-    /// Puts a row in the place of the one that the ready slot of its key has. Takes no memory.
-    pub fn replace(&mut self, key: &RowKey, row: SharedRow)
-        requires key { key.now.values ≡ key_at self.old.ordinals row }
-        requires ready { IsSome (slot_at self.old.ready key.now) }
-        requires there { IsSome (row_at self.old.slots key.now) }
-        ensures rows { (old : List V) → row_at self.old.slots key.now ≡ Some old → IsPermutation (rows_in self.new.slots) (without old (rows_in self.old.slots) ++ row ∷ []) }
-        ensures still { (k : RowKey) → IsSome (slot_at self.old.ready k) → IsSome (slot_at self.new.ready k) }
-        ensures ordinals { self.new.ordinals ≡ self.old.ordinals }
-    {
-        self.slots.exchange(key, row);
     }
 }

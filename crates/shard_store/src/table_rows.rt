@@ -1,5 +1,5 @@
 //! The rows of a table, without a promise that their keys differ: a row lies in the slot of its key, or in a list if another row has that slot.
-ghost use Rattle.std.specs.Prelude.{◌≡◌, ◌+◌, ◌<◌, ◌≤◌, ◌++◌, ◌∷◌, [], IsSome, IfOk, IfErr, OnOk, IsPermutation, length, position};
+ghost use Rattle.std.specs.Prelude.{◌≡◌, ◌+◌, ◌-◌, ◌<◌, ◌≤◌, ◌++◌, ◌∷◌, [], IsSome, IfOk, IfErr, OnOk, IsPermutation, length, position, vec_len, vec_capacity};
 ghost use Rattle.vschema.specs.Database.{same_row, without};
 ghost use Rattle.shard_store.specs.Slots.{rows_in, slot_at};
 ghost use Rattle.shard_store.specs.Tables.{key_at};
@@ -18,6 +18,16 @@ fn ordinal_of(rows: &[SharedRow], row: &Row) -> Option<usize>
     ensures { result ≡ position (λ r. same_row row.now r) rows.now }
 {
     rows.iter().position(|r| same_row(row, r.get()))
+}
+
+// Removes the first row that is this one, if there is one.
+fn remove_row(rows: &mut Vec<SharedRow>, row: &Row)
+    ensures rows { rows.new.items ≡ without row.now rows.old.items }
+    ensures room { vec_capacity rows.old - vec_len rows.old ≤ vec_capacity rows.new - vec_len rows.new }
+{
+    if let Some(ordinal) = ordinal_of(rows.as_slice(), row) {
+        rows.remove(ordinal);
+    }
 }
 
 /// The key of a changed row, and whether the change took that from its slot.
@@ -172,10 +182,10 @@ impl TableRows {
         ensures ordinals { self.new.ordinals ≡ self.old.ordinals }
         ensures room { self.old.room ≤ self.new.room + 1 }
     {
-        if self.stored.can_take(key) {
-            self.stored.add(key, row);
-        } else {
-            self.unslotted.push_reserved(row);
+        match self.stored.put(key, row) {
+            Ok(None) => {}
+            Ok(Some(former)) => self.unslotted.push_reserved(former),
+            Err(row) => self.unslotted.push_reserved(row),
         }
     }
 
@@ -190,8 +200,8 @@ impl TableRows {
     {
         if self.stored.holds(key, row) {
             self.stored.remove(key, row);
-        } else if let Some(ordinal) = ordinal_of(self.unslotted.as_slice(), row) {
-            self.unslotted.remove(ordinal);
+        } else {
+            remove_row(&mut self.unslotted, row);
         }
     }
 
@@ -206,11 +216,15 @@ impl TableRows {
         ensures ordinals { self.new.ordinals ≡ self.old.ordinals }
         ensures room { self.old.room ≤ self.new.room + 1 }
     {
-        if self.stored.holds(key, old) {
-            self.stored.replace(key, new);
-        } else {
-            self.remove(key, old);
-            self.add(key, new);
+        match self.stored.put(key, new) {
+            Ok(Some(former)) => {
+                if !same_row(old, former.get()) {
+                    remove_row(&mut self.unslotted, old);
+                    self.unslotted.push_reserved(former);
+                }
+            }
+            Ok(None) => remove_row(&mut self.unslotted, old),
+            Err(_) => unreachable!(),
         }
     }
 

@@ -1,17 +1,14 @@
-use Rattle.std.proofs.Common.{◌≡◌, ◌∷◌, Some, suc, length, arith}
-use Rattle.std.proofs.lemmas.List.Sorted.{length_permutation}
+use Rattle.std.proofs.Common.{◌∙◌, ap, sym, subst, IsSome, Option}
+use Rattle.std.proofs.lemmas.Result.{IfOk-weaker}
 use Rattle.vt_value.specs.Values.{Row}
-use Rattle.shard_store.specs.Slots.{rows_in}
-use Rattle.shard_store.proofs.TwoLists.{row_exchanged}
+use Rattle.shard_store.specs.Slots.{SlotsView, slot_at, with_row}
+use Rattle.shard_store.proofs.Exchanged.{exchanged_rows}
 use Rattle.shard_store.proofs.slots.Slots.exchange.Goals as goal
 
-pub returns-clause-rows : goal.returns-clause-rows
-returns-clause-rows c = λ old there.
-    row_exchanged c.args.key.now c.args.self.now.slots c.put.new.self.slots old c.args.row there (c.put.ensures.rows (Some old) there)
+pub returns-clause-still : goal.returns-clause-still
+returns-clause-still c = λ k h. c.exchange.ensures.kept k (subst (λ (v : SlotsView). IsSome (slot_at v.ready k)) (sym c.self.view_is) h)
 
-pub returns-clause-count : goal.returns-clause-count
-returns-clause-count c = λ old there.
-    let row : Row = c.args.row in
-    let n : suc (length (rows_in c.args.self.now.slots)) ≡ suc (length (rows_in c.put.new.self.slots)) =
-    length_permutation (old ∷ rows_in c.put.new.self.slots) (row ∷ rows_in c.args.self.now.slots) (c.put.ensures.rows (Some old) there) in
-    omega (arith, n)
+pub returns-clause-rows : goal.returns-clause-rows
+returns-clause-rows c =
+    exchanged_rows c.exchange.result c.args.key.now c.self.inside.map.entries c.args.self.now.slots c.exchange.new.self.entries c.args.row c.of.result c.of.ensures
+    (ap (λ (v : SlotsView). v.slots) c.self.view_is) c.exchange.ensures.former c.exchange.ensures.entries
