@@ -17,3 +17,4 @@ pub mod GroupRights
 pub mod PieceSums
 pub mod IdsKept
 pub mod Between
+mod PlainAnswers

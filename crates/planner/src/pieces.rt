@@ -258,7 +258,8 @@ impl Plan {
 
     // Promise: Each shard's piece, the finish of the pieces' answers, a write's route, the ordinals of a route among ranges, and whether a
     // route takes a range, also by an id that was made before, are as written
-    // With: Finish::{answer, answer_in_order, answer_alone}, Plan::whole_piece, write_route, shards, takes, single_id, takes_by, copy_items
+    // With: Finish::{answer, answer_in_order, answer_alone}, Plan::whole_piece, is_plain, point_route, is_answer, write_route, shards, takes,
+    // single_id, takes_by, copy_items
     /// The query that the shard of a range answers: the piece, under IN with the members of that conjunct cut to the shard's own.
     /// `table` is the query's table. Refuses only for want of memory.
     pub fn piece_for(

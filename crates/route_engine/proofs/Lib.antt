@@ -31,3 +31,4 @@ pub mod Homes
 pub mod Shared
 pub mod OverExample
 pub mod Narrowings
+pub mod Points

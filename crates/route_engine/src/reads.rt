@@ -2,6 +2,7 @@
 ghost use Rattle.std.specs.Prelude.{◌≡◌, ◌<◌, ◌∷◌, [], IfOk, IfErr, IfSome, IfNone, ◌⊎◌, map, length};
 ghost use Rattle.vschema.specs.Sources.{JoinsInPlace};
 ghost use Rattle.journal.specs.Runs.{IsLegal};
+ghost use Rattle.planner.specs.Plans.{planned};
 ghost use Rattle.serving.specs.Partitions.{AreOf};
 ghost use Rattle.shard_law.specs.Entries.{MayFollow};
 ghost use Rattle.shard_run.specs.Runs.{answers_queries};
@@ -9,15 +10,15 @@ ghost use Rattle.shard_calls.specs.Answers.{needed, HasGone, HasRead, IsHeldUp, 
 ghost use Rattle.shard_calls.specs.inner.Scatter.{IsScattered, IsFinished, CanJoinAll, AllInOrder};
 
 use crate::engine::Engine;
-use crate::shown::{shown_by, shown_whole};
+use crate::shown::{shown_by, shown_in, shown_whole};
 use journal::Naming;
 use operators::{Operator, Rows};
-use planner::{Plan, Route, plan};
+use planner::{Plan, Route, is_answer, is_plain, plan, point_route};
 use serving::{Partition, Seated, ShardReference};
 use shard::{Shard, ShardPass, World};
 use shard_calls::{
     Answer, Gate, Gathered, GatheredAlone, Reply, Selected, ShardRead, gather, gather_alone,
-    job_for, jobs, only_needed, read_all, read_one,
+    job_for, jobs, only_needed, point_job, read_all, read_one,
 };
 use sql_eval::narrow;
 use sql_tree::Item;
@@ -31,12 +32,12 @@ use vt_value::{Items, Refusal, Row};
 fn lone_part<'e, S: Seated + Drop>(
     parts: &'e [ShardReference<S>],
     table: &Table,
-    plan: &Plan,
+    route: &Route,
 ) -> Option<&'e ShardReference<S>>
-    ensures { IfSome result (λ part. needed table.now plan.now.route parts.now ≡ part.now ∷ []) }
+    ensures { IfSome result (λ part. needed table.now route.now parts.now ≡ part.now ∷ []) }
 {
-    match &plan.route {
-        Route::EqualUnique(_) => match only_needed(parts, table, &plan.route) {
+    match route {
+        Route::EqualUnique(_) => match only_needed(parts, table, route) {
             Ok(Some(part)) => Some(part),
             _ => None,
         },
@@ -148,7 +149,7 @@ impl<W: World + Send + Sync, J: Naming + Send + Sync, G: Gate> Engine<W, J, G> {
         ensures stalled { IfOk result (λ r. IfNone r (IsHeldUp W.opening table.now plan.now.route answers_queries pass.old.seen pass.new.seen)) }
         ensures err { IfErr result (λ e. e ≡ Refusal.OutOfMemory) }
     {
-        if let Some(part) = lone_part(partition.parts(), table, plan) {
+        if let Some(part) = lone_part(partition.parts(), table, &plan.route) {
             return self.answer_alone(rt, alloc, pass, partition, part, table, plan);
         }
         let Some(gathered) = self.scatter(rt, alloc, pass, partition, table, plan)? else {
@@ -194,8 +195,44 @@ impl<W: World + Send + Sync, J: Naming + Send + Sync, G: Gate> Engine<W, J, G> {
         unreachable!()
     }
 
+    // The rows of a query by its key, which its one shard by the present partition is asked as it is, and what the reply says of that;
+    // nothing if the query is no such, or if that shard doesn't serve.
+    fn answer_point(
+        &self,
+        rt: &impl Wait,
+        alloc: Global,
+        pass: &mut ShardPass<W, J>,
+        table: &Table,
+        query: &Query,
+    ) -> Result<Option<(Items<Row>, Items<ShardRead>)>, Refusal>
+        requires keyspace { table.now.keyspace < length self.now.keyspaces }
+        requires legal { IsLegal (MayFollow W.opening) pass.old.seen }
+        ensures gone { HasGone W.opening pass.old pass.new }
+        ensures ok { IfOk result (λ r. IfSome r (λ x. IsFinished W.opening table.now (planned table.now query.now) pass.old x.0 x.1 pass.new)) }
+        ensures err { IfErr result (λ e. e ≡ Refusal.OutOfMemory) }
+    {
+        if !is_plain(query) {
+            return Ok(None);
+        }
+        let Some(route) = point_route(alloc, table, query)? else {
+            return Ok(None);
+        };
+        let Some(part) = lone_part(self.current(table.keyspace).parts(), table, &route) else {
+            return Ok(None);
+        };
+        let job = point_job(pass, part, table, query)?;
+        let done = read_one(rt, alloc, &self.gate, job);
+        match gather_alone(alloc, pass, done)? {
+            Some(gathered) if is_answer(query, gathered.rows.as_slice()) => {
+                let GatheredAlone { rows, reads } = gathered;
+                Ok(Some((rows, reads)))
+            }
+            _ => Ok(None),
+        }
+    }
+
     // What the query shows, and its rows over the shards that its plan needs.
-    fn rows_over<R: Threads + Wait + Sync>(
+    fn rows_by_plan<R: Threads + Wait + Sync>(
         &self,
         rt: &R,
         alloc: Global,
@@ -238,6 +275,45 @@ impl<W: World + Send + Sync, J: Naming + Send + Sync, G: Gate> Engine<W, J, G> {
                 drop(shown);
                 Err(refusal)
             }
+        }
+    }
+
+    // What the query shows, and its rows over the shards that it needs: by its key it needs no plan.
+    fn rows_over<R: Threads + Wait + Sync>(
+        &self,
+        rt: &R,
+        alloc: Global,
+        pass: &mut ShardPass<W, J>,
+        query: Query,
+    ) -> Result<
+        (
+            (Items<Item<usize>>, Items<bool>),
+            (Items<Row>, Items<ShardRead>),
+        ),
+        Refusal,
+    >
+        requires there { query.table < length self.now.tables }
+        requires joins { JoinsInPlace W.opening.schema query }
+        requires legal { IsLegal (MayFollow W.opening) pass.old.seen }
+        ensures ok { IfOk result (λ r. HasRead W.opening pass.old query (record {
+          answer = Answer.Rows (record {
+            table = query.table;
+            join = query.join;
+            items = r.0.0;
+            qualified = r.0.1;
+            rows = r.1.0;
+          });
+          reads = r.1.1;
+        }) pass.new) }
+        ensures items { IfOk result (λ r. r.0.0 ≡ query.items) }
+        ensures err { IfErr result (λ r. MayReadRefuse W.opening pass.old query r pass.new) }
+    {
+        let ordinal = query.table;
+        let table = &self.schema.tables.as_slice()[ordinal];
+        match self.answer_point(rt, alloc, pass, table, &query) {
+            Ok(Some(read)) => Ok((shown_in(query), read)),
+            Ok(None) => self.rows_by_plan(rt, alloc, pass, query),
+            Err(refusal) => Err(refusal),
         }
     }
 

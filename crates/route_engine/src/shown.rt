@@ -9,6 +9,7 @@ use sql_eval::Whole;
 use sql_tree::Item;
 use std::alloc::Global;
 use std::mem::replace;
+use vschema::Query;
 use vt_value::{Items, Row};
 
 // The items of the whole query, and its rows as they are shown.
@@ -36,5 +37,16 @@ pub(crate) fn shown_by(alloc: Global, plan: &mut Plan) -> (Items<Item<usize>>, I
 {
     let items = replace(&mut plan.items, Items::new(alloc));
     let qualified = replace(&mut plan.qualified, Items::new(alloc));
+    (items, qualified)
+}
+
+// What a query shows, and whether each item was written with its table's name; the rest of the query goes.
+pub(crate) fn shown_in(query: Query) -> (Items<Item<usize>>, Items<bool>)
+    ensures items { result.0 ≡ query.items }
+    ensures qualified { result.1 ≡ query.qualified }
+{
+    let Query {
+        items, qualified, ..
+    } = query;
     (items, qualified)
 }

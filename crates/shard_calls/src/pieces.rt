@@ -30,6 +30,16 @@ impl<'e> Model for Piece<'e> {
 }
 
 impl<'e> Piece<'e> {
+    /// A query that the shard is asked as it is.
+    pub(crate) fn whole(query: &'e Query) -> Piece<'e>
+        ensures { result ≡ query.now }
+    {
+        Piece {
+            whole: query,
+            own: None,
+        }
+    }
+
     /// The query.
     pub fn get(&self) -> &Query
         ensures { result.now ≡ self.now }

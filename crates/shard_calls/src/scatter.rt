@@ -5,6 +5,8 @@ ghost use Rattle.journal.specs.Runs.{IsLegal};
 ghost use Rattle.serving.specs.Partitions.{AreOf};
 ghost use Rattle.shard_law.specs.Entries.{MayFollow};
 ghost use Rattle.shard.specs.Seats.{place_at};
+ghost use Rattle.planner.specs.declared.plans.Plan.{Plan as WrittenPlan};
+ghost use Rattle.planner.specs.Plans.{piece_of};
 ghost use Rattle.shard_calls.specs.Answers.{HasGone};
 ghost use Rattle.shard_calls.specs.inner.Scatter.{asked, all_asked, IsReadingOf, outcome_rows, entries_in, IsGathered, AreConsecutive, IsStalled};
 
@@ -127,6 +129,29 @@ pub fn job_for<'e, W: World, J: Naming>(
             Err(refusal)
         }
     }
+}
+
+/// What the part's shard is asked by a query that is its piece as it is, by a pass of its own.
+pub fn point_job<'e, W: World, J: Naming>(
+    pass: &mut ShardPass<W, J>,
+    part: &'e ShardReference<Shard<W, J>>,
+    table: &Table,
+    query: &'e Query,
+) -> Result<ReadJob<'e, W, J>, Refusal>
+    requires keyspace { part.now.2 ≡ table.now.keyspace }
+    ensures same { pass.new ≡ pass.old }
+    ensures asks { IfOk result (λ job. (plan : WrittenPlan) → piece_of table.now plan part.now.1 ≡ query.now
+        → record { slot = job.shard.now.0; place = place_at job.shard.now; query = job.query; pass = job.pass } ≡ asked table.now plan pass.old.seen part.now) }
+    ensures err { IfErr result (λ e. e ≡ Refusal.OutOfMemory) }
+{
+    let pass = pass.split()?;
+    Ok(ReadJob {
+        turn: 0,
+        shard: part.shard(),
+        most: most_rows(table, query),
+        query: Piece::whole(query),
+        pass,
+    })
 }
 
 /// What the shards are asked that the plan needs, each under the next number and by a pass of its own.
