@@ -57,9 +57,9 @@ there_by_slot ordinals key slots row former h up at is = sym (held_there ordinal
     by : (o : Option Row) → slot_at slots key ≡ Some o → (IsTrue (is_row row o)) ↔ (row_at slots key ≡ Some row)
     by None e = (λ t. absurd (false≢true t), λ s. absurd (false≢true (ap is_some (sym (ap (option_and_then (λ slot. slot)) e) ∙ s))))
     by (Some found) e = (
-        λ t. ap (option_and_then (λ slot. slot)) e ∙ ap Some (sym ((decides row found).0 t)),
-        λ s. (decides row found).1 (sym (some_is (sym (ap (option_and_then (λ slot. slot)) e) ∙ s))),
-      )
+      λ t. ap (option_and_then (λ slot. slot)) e ∙ ap Some (sym ((decides row found).0 t)),
+      λ s. (decides row found).1 (sym (some_is (sym (ap (option_and_then (λ slot. slot)) e) ∙ s))),
+    )
 
 -- no row has a key that has no slot
 pub none_without_slot : (ordinals : List ℕ) (key : RowKey) (slots : List Slot) → Keyed ordinals slots → IsStrictlySortedBy row_key_cmp (keys_of slots)

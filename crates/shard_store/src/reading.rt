@@ -28,9 +28,7 @@ use crate::stored::StoredTables;
 use crate::table::StoredTable;
 use crate::table_rows::TableRows;
 use crate::walk::{AllRows, ChosenRows, ChosenSlots, RowsAt};
-use sql_eval::{
-    all_kept, change_local, removals_from, select_from, select_local, updates_from,
-};
+use sql_eval::{all_kept, change_local, removals_from, select_from, select_local, updates_from};
 use sql_tree::{Assignment, Condition};
 use std::alloc::Global;
 use vschema::{Query, RowChange, Table, Write};
