@@ -165,8 +165,8 @@ impl<W: World + Send + Sync, J: Naming + Send + Sync, G: Gate> Engine<W, J, G> {
         }
     }
 
-    // The rows of the plan's query over the shards that it needs, once all of them serve, and what the reply says of these: until then it
-    // waits in the buffer, and begins again with the present partition.
+    // The rows of the plan's query over the shards that it needs, once all of them serve, and what the reply says of these: by the present
+    // partition, and where one doesn't serve by turns at the buffer, where it waits.
     fn answer<R: Threads + Wait + Sync>(
         &self,
         rt: &R,
@@ -184,13 +184,13 @@ impl<W: World + Send + Sync, J: Naming + Send + Sync, G: Gate> Engine<W, J, G> {
         ensures err { IfErr result (λ e. (e ≡ Refusal.OutOfMemory)
             ⊎ ((e ≡ Refusal.BufferFull) × IsHeldUp W.opening table.now plan.now.route answers_queries pass.old.seen pass.new.seen)) }
     {
+        let mut attempt = None;
         for _ in rt.forever() {
-            let attempt = self.attempt(rt, table.keyspace);
-            let partition = attempt.partition();
+            let partition = self.partition_to_try(&attempt, table.keyspace);
             if let Some(answered) = self.answer_by(rt, alloc, pass, partition, table, plan)? {
                 return Ok(answered);
             }
-            attempt.wait(rt)?;
+            attempt = Some(self.next_attempt(rt, attempt, table.keyspace)?);
         }
         unreachable!()
     }

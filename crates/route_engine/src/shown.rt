@@ -46,7 +46,9 @@ pub(crate) fn shown_in(query: Query) -> (Items<Item<usize>>, Items<bool>)
     ensures qualified { result.1 ≡ query.qualified }
 {
     let Query {
-        items, qualified, ..
+        items,
+        qualified,
+        ..
     } = query;
     (items, qualified)
 }

@@ -74,7 +74,7 @@ impl<W: World + Send + Sync, J: Naming + Send + Sync, G: Gate> Engine<W, J, G> {
         }
     }
 
-    // Tries a write until it is committed: while its shard takes no commits it waits in the buffer, and begins again with the present partition.
+    // Tries a write until it is committed: by the present partition, and where its shard takes no commits by turns at the buffer, where it waits.
     fn commit_until(
         &self,
         rt: &impl Wait,
@@ -95,16 +95,20 @@ impl<W: World + Send + Sync, J: Naming + Send + Sync, G: Gate> Engine<W, J, G> {
         ensures err { IfErr result (λ r. MayWriteRefuse W.opening W.limits pass.old write r pass.new) }
     {
         let mut write = write;
+        let mut attempt = None;
         for _ in rt.forever() {
-            let attempt = self.attempt(rt, table.keyspace);
-            match self.commit(rt, alloc, pass, attempt.partition(), table, route, write) {
+            let partition = self.partition_to_try(&attempt, table.keyspace);
+            match self.commit(rt, alloc, pass, partition, table, route, write) {
                 Ok(Tried::Done(count)) => return Ok(count),
                 Ok(Tried::Again(again)) => write = again,
                 Err(refusal) => return Err(refusal),
             }
-            if let Err(refusal) = attempt.wait(rt) {
-                drop(write);
-                return Err(refusal);
+            match self.next_attempt(rt, attempt, table.keyspace) {
+                Ok(next) => attempt = Some(next),
+                Err(refusal) => {
+                    drop(write);
+                    return Err(refusal);
+                }
             }
         }
         unreachable!()

@@ -5,7 +5,7 @@ use Rattle.route_engine.proofs.Scattering.{scattered_after}
 use Rattle.route_engine.proofs.engine.Engine.answer.Goals as goal
 
 pub loop-init : goal.loop-init
-loop-init g c = record { next = tt; finite = tt; gone = ([], stays _ _ c.requires.legal) }
+loop-init g c = record { next = tt; finite = tt; tried = tt; gone = ([], stays _ _ c.requires.legal) }
 
 pub answer_by-requires-clause-legal : goal.answer_by-requires-clause-legal
 answer_by-requires-clause-legal g c κs within = c.loop.invariant.gone.1.legal
@@ -34,7 +34,7 @@ returns-in-Some-2-clause-ok g c =
     }
 
 pub loop-preserved : goal.loop-preserved
-loop-preserved g c = record { next = tt; finite = tt; gone = gone_on _ _ _ _ c.loop.invariant.gone c.answer_by.ensures.gone }
+loop-preserved g c = record { next = tt; finite = tt; tried = c.in_ok-next_attempt.ensures.ok; gone = gone_on _ _ _ _ c.loop.invariant.gone c.answer_by.ensures.gone }
 
-pub returns-in_err-wait-clause-gone : goal.returns-in_err-wait-clause-gone
-returns-in_err-wait-clause-gone g c = gone_on _ _ _ _ c.loop.invariant.gone c.answer_by.ensures.gone
+pub returns-in_err-next_attempt-clause-gone : goal.returns-in_err-next_attempt-clause-gone
+returns-in_err-next_attempt-clause-gone g c = gone_on _ _ _ _ c.loop.invariant.gone c.answer_by.ensures.gone

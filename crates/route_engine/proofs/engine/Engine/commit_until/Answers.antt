@@ -9,7 +9,7 @@ use Rattle.route_engine.proofs.Trying as w
 use Rattle.route_engine.proofs.engine.Engine.commit_until.Goals as goal
 
 pub loop-init : goal.loop-init
-loop-init g c = record { next = tt; finite = tt; gone = ([], stays _ _ c.requires.legal); same = refl }
+loop-init g c = record { next = tt; finite = tt; tried = tt; gone = ([], stays _ _ c.requires.legal); same = refl }
 
 pub commit-requires-clause-table : goal.commit-requires-clause-table
 commit-requires-clause-table g c κs within =
@@ -33,11 +33,11 @@ returns-in-Err-clause-err g c =
     let why = rw c.loop.invariant.same at c.in-Err.ensures.err in
     w.refused_after g.W.World.opening g.W.World.limits c.args.write c.args.pass.now c.loop.pass c.commit.new.pass c.loop.invariant.gone _ why
 
-pub returns-in-Err-wait-clause-err : goal.returns-in-Err-wait-clause-err
-returns-in-Err-wait-clause-err g c =
+pub returns-in-Err-next_attempt-clause-err : goal.returns-in-Err-next_attempt-clause-err
+returns-in-Err-next_attempt-clause-err g c =
     let done = rw c.loop.invariant.same at c.in-Ok-Again.ensures.ok in
     let back = w.came_back g.W.World.opening g.W.World.limits c.args.write c.in-Ok-Again.again c.loop.pass c.commit.new.pass c.in-Ok-Again.field-0 c.in-Ok-Again.field-0-is done in
-    rw c.in-Err-wait.ensures.full
+    rw c.in-Err-next_attempt.ensures.full
     (w.refused_after g.W.World.opening g.W.World.limits c.args.write c.args.pass.now c.loop.pass c.commit.new.pass c.loop.invariant.gone _
     (a.buffer_full back.gone back.held))
 
@@ -45,4 +45,4 @@ pub loop-preserved : goal.loop-preserved
 loop-preserved g c =
     let done = rw c.loop.invariant.same at c.in-Ok-Again.ensures.ok in
     let back = w.came_back g.W.World.opening g.W.World.limits c.args.write c.in-Ok-Again.again c.loop.pass c.commit.new.pass c.in-Ok-Again.field-0 c.in-Ok-Again.field-0-is done in
-    record { next = tt; finite = tt; gone = gone_on _ _ _ _ c.loop.invariant.gone back.gone; same = back.same }
+    record { next = tt; finite = tt; tried = c.in-Ok.ensures.ok; gone = gone_on _ _ _ _ c.loop.invariant.gone back.gone; same = back.same }
