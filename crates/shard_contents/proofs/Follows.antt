@@ -224,6 +224,18 @@ module _ {X : Type 0} (o : Opening) (most : Limits) (seat looked : SeatView Entr
       count-stored _ _ has_now.stored ∙ length-kept c.shard.slot looked.seen ∙ ap (λ (s : ShardRecord). length (stored_on s.slot looked.seen)) (ap (λ (x : ShardView). x.shard) view)
       ∙ ap (λ (r : Run). length (stored_on v.shard.slot r)) (sym seen_same)
 
+  -- as many as before the look
+  pub entries_before : length (entries_on c.shard.slot looked.seen) ≡ length (entries_on v.shard.slot v.seen)
+  entries_before =
+      ap length (alone_here o most seat looked p c targets later slot_same inv.0)
+      ∙ ap (λ (x : ShardView). length (entries_on x.shard.slot x.seen)) view
+
+  pub stored_before : count_of c.stored.log ≡ length (stored_on v.shard.slot v.seen)
+  stored_before =
+      let follows : mode o seat.seen c.shard.slot ≡ Following = subst (λ (x : ShardView). mode o x.seen x.shard.slot ≡ Following) (sym view) following in
+      let held = holds_of o most seat.seen c inv.0.keeps (following_lives (mode o seat.seen c.shard.slot) follows) in
+      count-stored _ _ held.stored ∙ length-kept c.shard.slot seat.seen ∙ ap (λ (x : ShardView). length (stored_on x.shard.slot x.seen)) view
+
   module _ (f : F.Follow) (next : IsNext o p.seen v f) where
     -- it is lawful after each run that seat and pass may meet
     pub lawful : (run : Run) → IsLater slot_of commit_of (entries_of.MayFollow o) looked q run → entries_of.MayFollow o run (record { shard = c.shard; event = Follow f })

@@ -96,6 +96,12 @@ room_by_entries limits entries stored rows changes h =
     (and_parts (nat_lt entries (2 ^ 40)) (nat_lt stored limits.stored)
     (and_parts (nat_lt entries (2 ^ 40) && nat_lt stored limits.stored) (nat_le (rows + count_by is_added changes) (limits.rows + count_by is_removed changes)) h).0).0
 
+pub room_by_stored : (limits : Limits) (entries stored rows : ℕ) (changes : List RowChange) → has_room_for limits entries stored rows changes ≡ true → stored < limits.stored
+room_by_stored limits entries stored rows changes h =
+    ltb-true stored limits.stored
+    (and_parts (nat_lt entries (2 ^ 40)) (nat_lt stored limits.stored)
+    (and_parts (nat_lt entries (2 ^ 40) && nat_lt stored limits.stored) (nat_le (rows + count_by is_added changes) (limits.rows + count_by is_removed changes)) h).0).1
+
 pub copy_by_entries : (limits : Limits) (entries rows copied : ℕ) → has_room_to_copy limits entries rows copied ≡ true → entries < 2 ^ 40
 copy_by_entries limits entries rows copied h = ltb-true entries (2 ^ 40) (and_parts (nat_lt entries (2 ^ 40)) (nat_le (rows + copied) limits.rows) h).0
 

@@ -7,6 +7,7 @@ pub mod Shards
 pub mod Stores
 pub mod Transactions
 pub mod Earlier
+pub mod KeptChanges
 pub mod KeptConflicts
 pub mod LastChanges
 pub mod StoredLogs

@@ -4,14 +4,34 @@ ghost use Rattle.std.specs.Prelude.{◌≡◌, IfOk, IfErr};
 use shard_store::SharedChange;
 use std::alloc::Global;
 use std::marker::Model;
+use std::slice;
 use vschema::RowChange;
 use vt_value::Refusal;
+
+// Most entries change one row, and take no memory for a list.
+#[derive(Drop)]
+enum Changes {
+    One(SharedChange),
+    Many(Vec<SharedChange>),
+}
+
+// Changes with equal rows, of which no other has them yet.
+fn shared(alloc: Global, changes: &[RowChange]) -> Result<Vec<SharedChange>, Refusal>
+    ensures ok { IfOk result (λ list. list.items ≡ changes.now) }
+    ensures err { IfErr result (λ e. e ≡ Refusal.OutOfMemory) }
+{
+    let mut list = Vec::with_capacity(alloc, changes.len())?;
+    for change in changes {
+        list.push(SharedChange::new(alloc, change)?)?;
+    }
+    Ok(list)
+}
 
 /// What a shard keeps of an entry that it has stored: its changes, whose rows the tables hold too. No code asks for the rest of the entry once
 /// it is appended, so it isn't kept. Contracts see a list of `RowChange`s.
 #[derive(Drop)]
 pub struct KeptEntry {
-    changes: Vec<SharedChange>,
+    changes: Changes,
 }
 
 impl Model for KeptEntry {
@@ -19,12 +39,13 @@ impl Model for KeptEntry {
     ghost use Rattle.std.specs.Coded.{codes};
     ghost use Rattle.vschema.specs.contracts.changes.RowChange as change;
     ghost use Rattle.vschema.specs.declared.changes.RowChange.{RowChange};
+    ghost use Rattle.shard_contents.specs.inner.KeptChanges.{changes_in};
 
     ghost Value = { List RowChange };
 
     ghost coded = { Prim.hlevel (codes, change.the_row.coded) };
 
-    ghost view = { λ e. e.changes.items };
+    ghost view = { λ e. changes_in e.changes };
 }
 
 impl KeptEntry {
@@ -33,17 +54,20 @@ impl KeptEntry {
         ensures ok { IfOk result (λ e. e ≡ changes.now) }
         ensures err { IfErr result (λ e. e ≡ Refusal.OutOfMemory) }
     {
-        let mut kept = Vec::with_capacity(alloc, changes.len())?;
-        for change in changes {
-            kept.push(SharedChange::new(alloc, change)?)?;
-        }
-        Ok(KeptEntry { changes: kept })
+        let changes = match changes {
+            [change] => Changes::One(SharedChange::new(alloc, change)?),
+            _ => Changes::Many(shared(alloc, changes)?),
+        };
+        Ok(KeptEntry { changes })
     }
 
     /// What it changes.
     pub fn changes(&self) -> &[SharedChange]
         ensures { result.now ≡ self.now }
     {
-        self.changes.as_slice()
+        match &self.changes {
+            Changes::One(change) => slice::from_ref(change),
+            Changes::Many(changes) => changes.as_slice(),
+        }
     }
 }

@@ -18,7 +18,7 @@ use Rattle.shard_contents.proofs.Looks.{following_lives}
 use Rattle.shard_contents.proofs.States.{looked, same_contents, names_none}
 use Rattle.shard_contents.proofs.Earlier.{all_had_none}
 use Rattle.shard_contents.proofs.Follows as f
-use Rattle.shard_contents.proofs.StepRoom.{room_by_entries}
+use Rattle.shard_contents.proofs.StepRoom.{room_by_entries, room_by_stored}
 use Rattle.shard_contents.proofs.Legality.{legal_is}
 use Rattle.shard_contents.specs.inner.Transactions.{has_room_for}
 use Rattle.shard_contents.specs.inner.StoredLogs.{StoredLog, count_of, HasStoredNext}
@@ -160,3 +160,21 @@ returns-clause-rows g c apart =
     subst (λ (s : ShardRecord). row_count (shard_rows o c.append.new.pass.seen s) ≤ most.rows) shard_is
     (follow_within o most c.self.invariant.0.opens run (legal_is o run a.seen.1.legal) had.shard taken may c.append.new.pass.seen ends
     (subst (SourcesApart o c.append.new.pass.seen) (sym shard_is) apart) there (omega (arith, count, fits)))
+
+pub returns-clause-room : goal.returns-clause-room
+returns-clause-room g c =
+    let l = c.look-entries.ensures in
+    let o = g.W.World.opening in
+    let most = g.W.World.limits in
+    let had = c.self.inside.contents in
+    let yes = sym c.has_room_for.ensures ∙ c.if-not-has_room_for.false in
+    let few = room_by_entries had.limits c.look-entries.result (count_of had.stored.log) (row_count had.store.rows) c.as_slice-changes.result.now yes in
+    let less = room_by_stored had.limits c.look-entries.result (count_of had.stored.log) (row_count had.store.rows) c.as_slice-changes.result.now yes in
+    let count = f.count_is o most c.self.inside.seat c.look-entries.new.self had c.self.inside.targets c.args.pass.now c.look-entries.new.pass c.self.invariant l.seen l.seat l.pass
+    c.args.self.now c.self.view_is c.requires.following c.look-entries.result l.count in
+    let entries = f.entries_before o most c.self.inside.seat c.look-entries.new.self had c.self.inside.targets c.args.pass.now c.look-entries.new.pass c.self.invariant l.seen l.seat l.pass
+    c.args.self.now c.self.view_is c.requires.following in
+    let stored = f.stored_before o most c.self.inside.seat c.look-entries.new.self had c.self.inside.targets c.args.pass.now c.look-entries.new.pass c.self.invariant l.seen l.seat l.pass
+    c.args.self.now c.self.view_is c.requires.following in
+    let limit = ap (λ (x : Limits). x.stored) c.self.invariant.0.limits in
+    (omega (arith, few, count, entries), omega (arith, less, stored, limit))
