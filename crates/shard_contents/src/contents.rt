@@ -2,6 +2,7 @@
 //! refused, the other changes the rows and can't fail.
 ghost use Rattle.std.specs.Prelude.{◌≡◌, ◌+◌, ◌<◌, ◌≤◌, ◌^◌, ◌++◌, ◌∷◌, [], Ok, IfOk, IfErr, OnOk, IsTrue, length, slice_index_or, vec_len, vec_capacity};
 ghost use Rattle.vschema.specs.Schema.{no_table};
+ghost use Rattle.vschema.specs.declared.changes.Write.{Write as WrittenStatement};
 ghost use Rattle.std.specs.List.{AllByRecursion};
 ghost use Rattle.vschema.specs.Database.{SameRows, all_applied, changed_table};
 ghost use Rattle.sql_eval.specs.Writes.{written_table, changes_of};
@@ -78,13 +79,12 @@ fn commit_entry(
     alloc: Global,
     shard: &ShardRecord,
     statement_id: StatementId,
-    write: Write,
+    statements: Items<Write>,
     changes: Items<RowChange>,
 ) -> Result<Entry, Refusal>
-    ensures ok { IfOk result (λ e. e ≡ commit_entry shard.now statement_id.session statement_id.number write changes) }
+    ensures ok { (write : WrittenStatement) → statements ≡ write ∷ [] → IfOk result (λ e. e ≡ commit_entry shard.now statement_id.session statement_id.number write changes) }
     ensures err { IfErr result (λ e. e ≡ Refusal.OutOfMemory) }
 {
-    let statements = one(alloc, write)?;
     let shard = copy_shard(alloc, shard)?;
     let event = Event::Commit(Commit {
         session: statement_id.session,
@@ -187,10 +187,12 @@ impl Contents {
         ensures steps { self.new.steps.items ≡ self.old.steps.items }
         ensures same_limits { self.new.limits ≡ self.old.limits }
     {
-        let ready = self.changes_ready(alloc, entries, schema, &write);
-        let ((changes, (kept, keyed)), write) = with_owned(ready, write)?;
+        // it is moved once, to where it stays
+        let statements = one(alloc, write)?;
+        let ready = self.changes_ready(alloc, entries, schema, &statements.as_slice()[0]);
+        let ((changes, (kept, keyed)), statements) = with_owned(ready, statements)?;
         let count = changes.len() as u64;
-        let entry = commit_entry(alloc, &self.shard, statement_id, write, changes)?;
+        let entry = commit_entry(alloc, &self.shard, statement_id, statements, changes)?;
         Ok(Prepared {
             entry,
             kept,
