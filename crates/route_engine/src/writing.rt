@@ -21,6 +21,7 @@ use vschema::{Table, Write};
 use vt_value::Refusal;
 
 // The count, or the write again if its shard took no commits.
+#[inline(always)]
 fn tried(committed: CommitOutcome) -> Tried
     ensures { result ≡ tried committed }
 {
@@ -34,6 +35,7 @@ fn tried(committed: CommitOutcome) -> Tried
 impl<W: World + Send + Sync, J: Naming + Send + Sync, G: Gate> Engine<W, J, G> {
     // Commits the write on the one shard that it needs by the partition: the count, or the write again if that shard takes no commits.
     // If it needs several, each shard of the partition is looked at.
+    #[inline(always)]
     fn commit(
         &self,
         rt: &impl Wait,
