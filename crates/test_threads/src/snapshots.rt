@@ -29,7 +29,7 @@ type Map = ChunkMap<Number, Number>;
 // Puts an entry in, if the key has none.
 fn put_in(alloc: Global, map: &mut Map, key: u64, value: u64) -> Result<(), AllocError> {
     if !map.contains_key(&Number(key)) {
-        map.insert(alloc, Number(key), Number(value))?;
+        map.reserve(alloc, Number(key), Number(value))?;
         map.close(&Number(key));
     }
     Ok(())
@@ -39,11 +39,11 @@ fn put_in(alloc: Global, map: &mut Map, key: u64, value: u64) -> Result<(), Allo
 fn change(alloc: Global, map: &mut Map, key: u64) -> Result<(), AllocError> {
     let number = Number(key);
     if map.contains_key(&number) {
-        map.open(alloc, &number)?;
+        map.reserve(alloc, Number(key), Number(0))?;
         if key % 3 == 0 {
             map.remove(&number);
         } else {
-            map.set(&number, Number(7));
+            let _former = map.exchange(&number, Number(7));
         }
         map.close(&number);
     }
