@@ -6,6 +6,7 @@ mod copies;
 mod finishing;
 mod keys;
 mod members;
+mod needed;
 mod pieces;
 mod planning;
 mod plans;
@@ -16,6 +17,7 @@ mod taking;
 
 pub use keys::{KeyColumn, Keys};
 pub use members::{InValue, InValues, KnownId};
+pub use needed::NeededValues;
 pub use planning::{plan, query_route};
 pub use plans::{Finish, Plan};
 pub use points::{is_answer, is_plain, point_route};

@@ -235,7 +235,7 @@ fn shard_condition(
                 table,
                 keys: keys_on(table, vindex, join),
                 range,
-                known: values.as_slice(),
+                known: values.members(),
             };
             cut_condition(alloc, &home, condition)
         }

@@ -6,6 +6,7 @@ ghost use Rattle.planner.specs.Routes.{type_at, is_held, route_among, route_by, 
 use crate::conjuncts::{first_among, first_equal, is_never, is_null};
 use crate::keys::{Keys, keys_on};
 use crate::members::InValues;
+use crate::needed::NeededValues;
 use sql_tree::Condition;
 use std::alloc::Global;
 use vindex::AnyVindex;
@@ -24,7 +25,7 @@ pub enum Route {
     /// The shard of this value of the vindex column.
     EqualUnique(Value),
     /// The shards of these values of the vindex column.
-    In(InValues),
+    In(NeededValues),
     /// Every shard.
     Scatter,
 }
@@ -78,7 +79,7 @@ fn route_among(
     if values.is_empty() {
         Ok(Route::None)
     } else {
-        Ok(Route::In(values))
+        Ok(Route::In(NeededValues::many(values)))
     }
 }
 
@@ -149,6 +150,19 @@ fn values_at(alloc: Global, rows: &[Row], vindex: ColumnVindex) -> Result<InValu
     Ok(list)
 }
 
+// The values of one row without an allocation.
+fn needed_values(alloc: Global, rows: &[Row], vindex: ColumnVindex) -> Result<NeededValues, Refusal>
+    ensures ok { IfOk result (λ values. values ≡ map (λ row. value_at row vindex.column) rows.now) }
+    ensures err { IfErr result (λ e. e ≡ Refusal.OutOfMemory) }
+{
+    if let [row] = rows {
+        let value = value_at(alloc, row, vindex.column)?;
+        return Ok(NeededValues::one(value));
+    }
+    let values = values_at(alloc, rows, vindex)?;
+    Ok(NeededValues::many(values))
+}
+
 fn insert_route(alloc: Global, table: &Table, rows: &[Row]) -> Result<Route, Refusal>
     ensures ok { IfOk result (λ route. route ≡ insert_route table.now rows.now) }
     ensures err { IfErr result (λ e. e ≡ Refusal.OutOfMemory) }
@@ -156,7 +170,7 @@ fn insert_route(alloc: Global, table: &Table, rows: &[Row]) -> Result<Route, Ref
     match table.vindex {
         None => Ok(Route::Unsharded),
         Some(vindex) => {
-            let values = values_at(alloc, rows, vindex)?;
+            let values = needed_values(alloc, rows, vindex)?;
             Ok(Route::In(values))
         }
     }

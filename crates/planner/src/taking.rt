@@ -9,6 +9,7 @@ ghost use Rattle.planner.specs.declared.routes.Route.{Route};
 ghost use Rattle.planner.specs.Routes.{id_of, is_sharded, takes, taken_ordinals};
 
 use crate::members::{InValue, InValues, KnownId};
+use crate::needed::{Kept, NeededValues};
 use crate::routes::Route;
 use crate::spans::{Span, misses};
 use keyrange::KeyRange;
@@ -70,6 +71,15 @@ fn has_one_among(table: &Table, range: &KeyRange, values: &InValues) -> bool
     has_one_of(table, range, values.as_slice())
 }
 
+fn needs_range(table: &Table, range: &KeyRange, values: &NeededValues) -> bool
+    ensures { result ≡ list_any (λ v. has_id range.now (id_of table.now v)) values.now }
+{
+    match values.kept() {
+        Kept::One(value) => has_value(table, range, value),
+        Kept::Many(values) => has_one_among(table, range, values),
+    }
+}
+
 /// Whether the route of a statement on the table takes the shard of a range.
 pub fn takes(table: &Table, route: &Route, range: &KeyRange) -> bool
     ensures { result ≡ takes table.now route.now range.now }
@@ -79,18 +89,28 @@ pub fn takes(table: &Table, route: &Route, range: &KeyRange) -> bool
         Route::None => false,
         Route::Scatter => true,
         Route::EqualUnique(value) => has_value(table, range, value),
-        Route::In(values) => has_one_among(table, range, values),
+        Route::In(values) => needs_range(table, range, values),
     }
 }
 
-// The keyspace id of a value that is the only one, if it has one.
-fn lone_id<'r>(table: &Table, vindex: ColumnVindex, values: &'r InValues) -> Option<Ksid<'r>>
+fn lone_member_id<'r>(table: &Table, vindex: ColumnVindex, values: &'r InValues) -> Option<Ksid<'r>>
     requires vindex { table.now.vindex ≡ Some vindex }
     ensures { IfSome result (λ id. (range : KeyRange) → list_any (λ v. has_id range (id_of table.now v)) values.now ≡ has_id range (ksid_bytes id)) }
 {
     match values.as_slice() {
         [member] => vindex.vindex.map(&member.value),
         _ => None,
+    }
+}
+
+// The keyspace id of a value that is the only one, if it has one.
+fn lone_id<'r>(table: &Table, vindex: ColumnVindex, values: &'r NeededValues) -> Option<Ksid<'r>>
+    requires vindex { table.now.vindex ≡ Some vindex }
+    ensures { IfSome result (λ id. (range : KeyRange) → list_any (λ v. has_id range (id_of table.now v)) values.now ≡ has_id range (ksid_bytes id)) }
+{
+    match values.kept() {
+        Kept::One(value) => vindex.vindex.map(value),
+        Kept::Many(values) => lone_member_id(table, vindex, values),
     }
 }
 
