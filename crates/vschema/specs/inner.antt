@@ -1,3 +1,4 @@
 pub mod FirstOrdinals
 pub mod LateChecks
+pub mod Mixes
 pub mod StoredChecks

@@ -1,9 +1,11 @@
 //! What is refused of a query: names that aren't there, numbers compared with texts, and columns outside GROUP BY.
-ghost use Rattle.std.specs.Prelude.{◌≡◌, ◌||◌, map, is_none, IfOk};
+ghost use Rattle.std.specs.Prelude.{◌≡◌, ◌||◌, map, is_none, option_map, IfOk};
 ghost use Rattle.std.specs.List.{list_any};
 ghost use Rattle.vschema.specs.Checks.{is_unknown, is_unnamed, join_names_unknown, operand_is_unknown, condition_names_unknown, filter_has, item_names_unknown, list_names_unknown, names_unknown_column};
-ghost use Rattle.vschema.specs.Checks.{is_text_type, value_is_text, column_is_text, operand_is_text, differ, condition_mixes, is_text_sum, sums_text, select_is_not_supported};
+ghost use Rattle.vschema.specs.Checks.{is_text_type, value_is_text, column_is_text, differ, condition_mixes, is_text_sum, sums_text, select_is_not_supported};
 ghost use Rattle.vschema.specs.Checks.{has_number, is_aggregate};
+ghost use Rattle.vschema.specs.Resolved.{resolved_condition};
+ghost use Rattle.vschema.specs.inner.Mixes.{operand_is_text_at, condition_mixes_at, filter_mixes_at};
 ghost use Rattle.vschema.specs.inner.LateChecks.{aggregates, shows_others};
 ghost use Rattle.vschema.specs.FirstOrdinals.{first_ordinal};
 ghost use Rattle.vschema.specs.inner.FirstOrdinals.{shows_other};
@@ -153,11 +155,11 @@ pub fn column_is_text(scope: &Scope, ordinal: usize) -> Option<bool>
     }
 }
 
-fn operand_is_text(scope: &Scope, operand: &Operand<ColumnName>) -> Option<bool>
-    ensures { result ≡ operand_is_text scope.now operand.now }
+fn operand_is_text(scope: &Scope, operand: &Operand<usize>) -> Option<bool>
+    ensures { result ≡ operand_is_text_at scope.now operand.now }
 {
     match operand {
-        Operand::Column(name) => { column_is_text(scope, ordinal_in(scope, name)) }
+        Operand::Column(ordinal) => column_is_text(scope, *ordinal),
         Operand::Literal(value) => value_is_text(value),
     }
 }
@@ -184,8 +186,8 @@ fn some_differs(kind: Option<bool>, members: &[Value]) -> bool
 }
 
 #[cycle(mixes)]
-fn condition_mixes(scope: &Scope, condition: &Condition<ColumnName>) -> bool
-    ensures { result ≡ condition_mixes scope.now condition.now }
+fn condition_mixes(scope: &Scope, condition: &Condition<usize>) -> bool
+    ensures { result ≡ condition_mixes_at scope.now condition.now }
 {
     match condition {
         Condition::Compare(_, a, b) => {
@@ -200,8 +202,8 @@ fn condition_mixes(scope: &Scope, condition: &Condition<ColumnName>) -> bool
 }
 
 #[cycle(mixes)]
-fn any_mixes(scope: &Scope, members: &[Condition<ColumnName>]) -> bool
-    ensures { result ≡ list_any (λ b. b) (map (condition_mixes scope.now) members.now) }
+fn any_mixes(scope: &Scope, members: &[Condition<usize>]) -> bool
+    ensures { result ≡ list_any (λ b. b) (map (condition_mixes_at scope.now) members.now) }
 {
     for member in members {
         if condition_mixes(scope, member) {
@@ -235,21 +237,35 @@ fn sums_text(scope: &Scope, list: &SelectList) -> bool
     }
 }
 
-/// Whether a comparison of a condition has a number on one side and a text on the other.
-pub fn filter_mixes(scope: &Scope, filter: &Option<Condition<ColumnName>>) -> bool
-    ensures { result ≡ filter_has (condition_mixes scope.now) filter.now }
+fn resolved_mixes(scope: &Scope, resolved: &Option<Condition<usize>>) -> bool
+    ensures { result ≡ filter_mixes_at scope.now resolved.now }
 {
-    match filter {
+    match resolved {
         None => false,
         Some(condition) => condition_mixes(scope, condition),
     }
 }
 
-/// Whether a comparison of the query has a number on one side and a text on the other, or a text is summed.
-pub fn is_not_supported(scope: &Scope, select: &Select) -> bool
+/// Whether a comparison of a condition has a number on one side and a text on the other. It's asked of the condition with its columns by
+/// their ordinals, so that no name is looked up again.
+pub fn filter_mixes(
+    scope: &Scope,
+    filter: &Option<Condition<ColumnName>>,
+    resolved: &Option<Condition<usize>>,
+) -> bool
+    requires resolved { resolved.now ≡ option_map (resolved_condition scope.now) filter.now }
+    ensures { result ≡ filter_has (condition_mixes scope.now) filter.now }
+{
+    resolved_mixes(scope, resolved)
+}
+
+/// Whether a comparison of the query has a number on one side and a text on the other, or a text is summed; `filter` is its condition
+/// with its columns by ordinals.
+pub fn is_not_supported(scope: &Scope, select: &Select, filter: &Option<Condition<usize>>) -> bool
+    requires resolved { filter.now ≡ option_map (resolved_condition scope.now) select.now.filter }
     ensures { result ≡ select_is_not_supported scope.now select.now }
 {
-    filter_mixes(scope, &select.filter) || sums_text(scope, &select.list)
+    filter_mixes(scope, &select.filter, filter) || sums_text(scope, &select.list)
 }
 
 /// Whether the number is one of these.

@@ -374,17 +374,17 @@ fn resolve_over(
     if names_unknown_column(scope, select) {
         return Err(Refusal::UnknownColumn);
     }
-    if is_not_supported(scope, select) {
+    let filter = match resolve_filter(alloc, scope, &select.filter) {
+        Ok(filter) => filter,
+        Err(refusal) => return Err(refusal),
+    };
+    if is_not_supported(scope, select, &filter) {
         return Err(Refusal::NotSupported);
     }
     let items = resolve_list(alloc, scope, &select.list)?;
     let qualified = qualified_in(alloc, &select.list)?;
     let group_by = resolve_columns(alloc, scope, select.group_by.as_slice())?;
     let order_by = resolve_keys(alloc, scope, select.order_by.as_slice())?;
-    let filter = match resolve_filter(alloc, scope, &select.filter) {
-        Ok(filter) => filter,
-        Err(refusal) => return Err(refusal),
-    };
     let join = join_over(scope, sources.second, &select.join);
     let aggregated = aggregates(items.as_slice(), group_by.as_slice());
     if join_is_refused(scope, sources.ordinal, join, aggregated) {

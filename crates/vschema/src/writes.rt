@@ -2,7 +2,8 @@
 ghost use Rattle.std.specs.Prelude.{◌≡◌, ◌⊎◌, ◌==◌, ℕ, IsTrue, IfOk, IfErr, IfSome, map, option_map, false, Ok, Err};
 ghost use Rattle.vschema.specs.declared.changes.Write.TheVariants as written;
 ghost use Rattle.vschema.specs.Schema.{ordinal_from};
-ghost use Rattle.vschema.specs.Resolved.{ordinals_from};
+ghost use Rattle.vschema.specs.Resolved.{ordinals_from, resolved_condition};
+ghost use Rattle.vschema.specs.Scopes.{only};
 ghost use Rattle.vschema.specs.WriteChecks.{has_twice, sets_twice, listed_names, insert_ordinals, has_wrong_count, insert_names_unknown, inserted_values, has_other_kind, leaves_out_column, assigned_values, update_names_unknown, sets_key, update_is_not_supported};
 ghost use Rattle.vschema.specs.TypedStatement.{as_write};
 ghost use Rattle.vschema.specs.TypedWrites.{value_for, whole_row, resolved_assignment, insert_over, update_over, delete_over, unless_refused, stored_checks, insert_checks, update_checks, delete_checks, typed_insert, typed_update, typed_delete};
@@ -20,7 +21,7 @@ use crate::write_checks::{
     StoredCheck, assignments_fail, has_wrong_count, leaves_out_column, rows_fail, sets_key,
     sets_unknown,
 };
-use sql_tree::{Assignment, Delete, Insert, Name, Update};
+use sql_tree::{Assignment, Condition, Delete, Insert, Name, Update};
 use std::alloc::Global;
 use vschema_json::has_twice;
 use vt_value::{Items, Refusal, Row, Value, copy};
@@ -291,11 +292,13 @@ fn update_is_not_supported(
     table: &Table,
     update: &Update,
     assignments: &[Assignment<usize>],
+    filter: &Option<Condition<usize>>,
 ) -> bool
     requires resolved { assignments.now ≡ map (resolved_assignment table.now) update.now.assignments }
+    requires filter { filter.now ≡ option_map (resolved_condition (only table.now)) update.now.filter }
     ensures { result ≡ update_is_not_supported table.now update.now }
 {
-    filter_mixes(&Scope::of(table), &update.filter)
+    filter_mixes(&Scope::of(table), &update.filter, filter)
         || update_fails(StoredCheck::OtherKind, table, update, assignments)
         || update_sets_key(table, update, assignments)
 }
@@ -321,19 +324,22 @@ fn assigned_refusal(
     }
 }
 
-// The refusal of an UPDATE that sets no column twice; `assignments` are SET's with their columns by ordinals.
+// The refusal of an UPDATE that sets no column twice; `assignments` are SET's with their columns by ordinals, and `filter` is its condition
+// with them.
 fn update_refusal(
     table: &Table,
     update: &Update,
     assignments: &[Assignment<usize>],
+    filter: &Option<Condition<usize>>,
 ) -> Option<Refusal>
     requires resolved { assignments.now ≡ map (resolved_assignment table.now) update.now.assignments }
+    requires filter { filter.now ≡ option_map (resolved_condition (only table.now)) update.now.filter }
     requires once { sets_twice update.now.assignments ≡ false }
     ensures { (w : Write) → unless_refused (update_checks table.now update.now) w ≡ unless result w }
 {
     if update_names_unknown(table, update) {
         Some(Refusal::UnknownColumn)
-    } else if update_is_not_supported(table, update, assignments) {
+    } else if update_is_not_supported(table, update, assignments, filter) {
         Some(Refusal::NotSupported)
     } else {
         assigned_refusal(table, update, assignments)
@@ -385,13 +391,13 @@ fn update_of(
         return Err(Refusal::ColumnNamedTwice);
     }
     let assignments = resolve_assignments(alloc, table, update.assignments.as_slice())?;
-    if let Some(refusal) = update_refusal(table, update, assignments.as_slice()) {
-        return Err(refusal);
-    }
     let filter = match resolve_filter(alloc, &Scope::of(table), &update.filter) {
         Ok(filter) => filter,
         Err(refusal) => return Err(refusal),
     };
+    if let Some(refusal) = update_refusal(table, update, assignments.as_slice(), &filter) {
+        return Err(refusal);
+    }
     Ok(Typed::Write(Write::Update(ordinal, assignments, filter)))
 }
 
@@ -408,10 +414,10 @@ fn delete_from(
     if filter_names_unknown(&Scope::of(table), &delete.filter) {
         return Err(Refusal::UnknownColumn);
     }
-    if filter_mixes(&Scope::of(table), &delete.filter) {
+    let filter = resolve_filter(alloc, &Scope::of(table), &delete.filter)?;
+    if filter_mixes(&Scope::of(table), &delete.filter, &filter) {
         return Err(Refusal::NotSupported);
     }
-    let filter = resolve_filter(alloc, &Scope::of(table), &delete.filter)?;
     Ok(Typed::Write(Write::Delete(ordinal, filter)))
 }
 
