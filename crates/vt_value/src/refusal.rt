@@ -1,6 +1,6 @@
 //! Every refusal, with the number, code, state and message by which a client sees it.
 ghost use Rattle.std.specs.Prelude.{◌≡◌, Some};
-ghost use Rattle.vt_value.specs.Refusals.{refusal_number, code_of, state_of, message_of};
+ghost use Rattle.vt_value.specs.Refusals.{entry_of, refusal_number, code_of, state_of, message_of};
 
 use std::alloc::{AllocError, AllocFailed};
 use std::fmt;
@@ -93,143 +93,94 @@ pub const REFUSALS: [Refusal; 26] = [
     Refusal::NoKeyspace,
 ];
 
+/// How a refusal is seen.
+#[derive(Clone, Copy)]
+struct Entry {
+    number: u8,
+    code: u16,
+    state: &'static str,
+    message: &'static str,
+}
+
+impl Entry {
+    fn new(number: u8, code: u16, state: &'static str, message: &'static str) -> Entry
+        ensures number { result.number ≡ number }
+        ensures code { result.code ≡ code }
+        ensures state { result.state.now ≡ state.now }
+        ensures message { result.message.now ≡ message.now }
+    {
+        Entry {
+            number,
+            code,
+            state,
+            message,
+        }
+    }
+}
+
 impl Refusal {
+    // The table of the refusals: number, error code, SQL state and message.
+    fn entry(self) -> Entry
+        ensures { entry_of self ≡ record { number = result.number; code = result.code; state = result.state.now; message = result.message.now } }
+    {
+        match self {
+            Refusal::OutOfMemory => Entry::new(1, 1037, "HY001", "out of memory"),
+            Refusal::SyntaxError => Entry::new(2, 1064, "42000", "syntax error"),
+            Refusal::NotSupported => Entry::new(3, 1235, "42000", "not supported"),
+            Refusal::UnknownTable => Entry::new(4, 1146, "42S02", "no such table"),
+            Refusal::UnknownColumn => Entry::new(5, 1054, "42S22", "no such column"),
+            Refusal::UnknownKeyspace => Entry::new(6, 1049, "42000", "no such database"),
+            Refusal::AccessDenied => Entry::new(7, 1045, "28000", "access denied"),
+            Refusal::UnknownCommand => Entry::new(8, 1047, "08S01", "unknown command"),
+            Refusal::PacketTooLarge => Entry::new(9, 1153, "08S01", "packet too large"),
+            Refusal::PacketsOutOfOrder => Entry::new(10, 1156, "08S01", "packets out of order"),
+            Refusal::BadHandshake => Entry::new(11, 1043, "08S01", "bad handshake"),
+            Refusal::DuplicateKey => Entry::new(12, 1062, "23000", "duplicate key"),
+            Refusal::NullNotAllowed => Entry::new(13, 1048, "23000", "column cannot be null"),
+            Refusal::NoDefaultValue => Entry::new(14, 1364, "HY000", "no default value"),
+            Refusal::OutOfRange => Entry::new(15, 1264, "22003", "value out of range"),
+            Refusal::TooLong => Entry::new(16, 1406, "22001", "value too long"),
+            Refusal::WrongValueCount => Entry::new(17, 1136, "21S01", "wrong value count"),
+            Refusal::ColumnNamedTwice => Entry::new(18, 1110, "42000", "column named twice"),
+            Refusal::NotGrouped => Entry::new(19, 1055, "42000", "column not grouped"),
+            Refusal::SeveralShards => Entry::new(20, 1105, "HY000", "more than one shard"),
+            Refusal::Conflict => Entry::new(21, 1213, "40001", "conflict"),
+            Refusal::BufferFull => Entry::new(22, 1105, "HY000", "buffer full"),
+            Refusal::ShardMoved => Entry::new(23, 1105, "HY000", "shard moved"),
+            Refusal::ShardFull => Entry::new(24, 1114, "HY000", "shard full"),
+            Refusal::UnknownVariable => Entry::new(25, 1193, "HY000", "no such variable"),
+            Refusal::NoKeyspace => Entry::new(26, 1046, "3D000", "no database selected"),
+        }
+    }
+
     // Promise: Each refusal has its number, code, state and message, and shows its message
     // With: Refusal::{code, state, message, fmt}
     /// The number by which the documents and the admin port name the refusal, 1 to 26.
     pub fn number(self) -> u8
         ensures { result ≡ refusal_number self }
     {
-        match self {
-            Refusal::OutOfMemory => 1,
-            Refusal::SyntaxError => 2,
-            Refusal::NotSupported => 3,
-            Refusal::UnknownTable => 4,
-            Refusal::UnknownColumn => 5,
-            Refusal::UnknownKeyspace => 6,
-            Refusal::AccessDenied => 7,
-            Refusal::UnknownCommand => 8,
-            Refusal::PacketTooLarge => 9,
-            Refusal::PacketsOutOfOrder => 10,
-            Refusal::BadHandshake => 11,
-            Refusal::DuplicateKey => 12,
-            Refusal::NullNotAllowed => 13,
-            Refusal::NoDefaultValue => 14,
-            Refusal::OutOfRange => 15,
-            Refusal::TooLong => 16,
-            Refusal::WrongValueCount => 17,
-            Refusal::ColumnNamedTwice => 18,
-            Refusal::NotGrouped => 19,
-            Refusal::SeveralShards => 20,
-            Refusal::Conflict => 21,
-            Refusal::BufferFull => 22,
-            Refusal::ShardMoved => 23,
-            Refusal::ShardFull => 24,
-            Refusal::UnknownVariable => 25,
-            Refusal::NoKeyspace => 26,
-        }
+        self.entry().number
     }
 
     /// The error code of the ERR packet.
     pub fn code(self) -> u16
         ensures { result ≡ code_of self }
     {
-        match self {
-            Refusal::OutOfMemory => 1037,
-            Refusal::SyntaxError => 1064,
-            Refusal::NotSupported => 1235,
-            Refusal::UnknownTable => 1146,
-            Refusal::UnknownColumn => 1054,
-            Refusal::UnknownKeyspace => 1049,
-            Refusal::AccessDenied => 1045,
-            Refusal::UnknownCommand => 1047,
-            Refusal::PacketTooLarge => 1153,
-            Refusal::PacketsOutOfOrder => 1156,
-            Refusal::BadHandshake => 1043,
-            Refusal::DuplicateKey => 1062,
-            Refusal::NullNotAllowed => 1048,
-            Refusal::NoDefaultValue => 1364,
-            Refusal::OutOfRange => 1264,
-            Refusal::TooLong => 1406,
-            Refusal::WrongValueCount => 1136,
-            Refusal::ColumnNamedTwice => 1110,
-            Refusal::NotGrouped => 1055,
-            Refusal::SeveralShards => 1105,
-            Refusal::Conflict => 1213,
-            Refusal::BufferFull => 1105,
-            Refusal::ShardMoved => 1105,
-            Refusal::ShardFull => 1114,
-            Refusal::UnknownVariable => 1193,
-            Refusal::NoKeyspace => 1046,
-        }
+        self.entry().code
     }
 
     /// The SQL state of the ERR packet, five ASCII bytes.
     pub fn state(self) -> &'static str
         ensures { result.now ≡ state_of self }
     {
-        match self {
-            Refusal::OutOfMemory => "HY001",
-            Refusal::SyntaxError => "42000",
-            Refusal::NotSupported => "42000",
-            Refusal::UnknownTable => "42S02",
-            Refusal::UnknownColumn => "42S22",
-            Refusal::UnknownKeyspace => "42000",
-            Refusal::AccessDenied => "28000",
-            Refusal::UnknownCommand => "08S01",
-            Refusal::PacketTooLarge => "08S01",
-            Refusal::PacketsOutOfOrder => "08S01",
-            Refusal::BadHandshake => "08S01",
-            Refusal::DuplicateKey => "23000",
-            Refusal::NullNotAllowed => "23000",
-            Refusal::NoDefaultValue => "HY000",
-            Refusal::OutOfRange => "22003",
-            Refusal::TooLong => "22001",
-            Refusal::WrongValueCount => "21S01",
-            Refusal::ColumnNamedTwice => "42000",
-            Refusal::NotGrouped => "42000",
-            Refusal::SeveralShards => "HY000",
-            Refusal::Conflict => "40001",
-            Refusal::BufferFull => "HY000",
-            Refusal::ShardMoved => "HY000",
-            Refusal::ShardFull => "HY000",
-            Refusal::UnknownVariable => "HY000",
-            Refusal::NoKeyspace => "3D000",
-        }
+        self.entry().state
     }
 
     /// The message of the ERR packet, in ASCII.
     pub fn message(self) -> &'static str
         ensures { result.now ≡ message_of self }
     {
-        match self {
-            Refusal::OutOfMemory => "out of memory",
-            Refusal::SyntaxError => "syntax error",
-            Refusal::NotSupported => "not supported",
-            Refusal::UnknownTable => "no such table",
-            Refusal::UnknownColumn => "no such column",
-            Refusal::UnknownKeyspace => "no such database",
-            Refusal::AccessDenied => "access denied",
-            Refusal::UnknownCommand => "unknown command",
-            Refusal::PacketTooLarge => "packet too large",
-            Refusal::PacketsOutOfOrder => "packets out of order",
-            Refusal::BadHandshake => "bad handshake",
-            Refusal::DuplicateKey => "duplicate key",
-            Refusal::NullNotAllowed => "column cannot be null",
-            Refusal::NoDefaultValue => "no default value",
-            Refusal::OutOfRange => "value out of range",
-            Refusal::TooLong => "value too long",
-            Refusal::WrongValueCount => "wrong value count",
-            Refusal::ColumnNamedTwice => "column named twice",
-            Refusal::NotGrouped => "column not grouped",
-            Refusal::SeveralShards => "more than one shard",
-            Refusal::Conflict => "conflict",
-            Refusal::BufferFull => "buffer full",
-            Refusal::ShardMoved => "shard moved",
-            Refusal::ShardFull => "shard full",
-            Refusal::UnknownVariable => "no such variable",
-            Refusal::NoKeyspace => "no database selected",
-        }
+        self.entry().message
     }
 }
 
