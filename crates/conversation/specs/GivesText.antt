@@ -67,19 +67,6 @@ pub data TellsClient (schema : VSchema) (handshake : Handshake) (set : Settings)
       → TellsAnswer answer outcome → TellsClient schema handshake set statement outcome set
   no_memory : {statement : ClientStatement} → has_client_answer statement ≡ true → TellsClient schema handshake set statement (Refused r.OutOfMemory) set
 
--- What a statement gives that asks something of the server. START TRANSACTION with what each transaction here has is BEGIN. Autocommit that is
--- turned on commits an open transaction as COMMIT does; if that is refused it stays off.
-pub data AnswersClient {S : Type 0} (context : SessionContext S) (May : S → List ℕ → Outcome → S → Type 0) (set : Settings) (s : S) : ClientStatement → Outcome → Settings → S → Type 0 where
-  begun : {outcome : Outcome} {now : S} → May s (codes "BEGIN") outcome now → AnswersClient context May set s Begin outcome set now
-  turned_on : set.autocommit ≡ false → context.is_open s ≡ false
-      → AnswersClient context May set s (Set (Some true)) (Count 0) (record set { autocommit = true }) s
-  committed : {now : S} → set.autocommit ≡ false → context.is_open s ≡ true → May s (codes "COMMIT") (Count 0) now
-      → AnswersClient context May set s (Set (Some true)) (Count 0) (record set { autocommit = true }) now
-  not_committed : {why : Refusal} {now : S} → set.autocommit ≡ false → context.is_open s ≡ true → May s (codes "COMMIT") (Refused why) now
-      → AnswersClient context May set s (Set (Some true)) (Refused why) set now
-  by_itself : {statement : ClientStatement} {outcome : Outcome} {then : Settings} → TellsClient context.schema context.handshake set statement outcome then
-      → AnswersClient context May set s statement outcome then s
-
 -- ---- texts over the tables
 
 -- a statement that opens a transaction, if autocommit is off and none is open
@@ -98,27 +85,41 @@ OpensOne text = (statement : Statement) × Reads text statement × (opens_one st
 abbrev pub NeedsOne : {S : Type 0} → SessionContext S → Settings → S → Type 0
 NeedsOne context set s = (set.autocommit ≡ false) × (context.is_open s ≡ false)
 
--- What a text gives that is run over the tables, and what the session has then seen. With autocommit off one that opens a transaction gives,
--- if none is open, what it gives after BEGIN, or BEGIN's refusal. It may be that there is no memory to read whether it opens one.
-pub data RunsText {S : Type 0} (context : SessionContext S) (May : S → List ℕ → Outcome → S → Type 0) (set : Settings) (s : S) (text : List ℕ) : Outcome → S → Type 0 where
-  alone : {outcome : Outcome} {now : S} → (NeedsOne context set s → OpensOne text → ⊥) → May s text outcome now → RunsText context May set s text outcome now
-  after_begin : {outcome : Outcome} {mid now : S} → NeedsOne context set s → OpensOne text → May s (codes "BEGIN") (Count 0) mid → May mid text outcome now
-      → RunsText context May set s text outcome now
-  not_begun : {why : Refusal} {now : S} → NeedsOne context set s → OpensOne text → May s (codes "BEGIN") (Refused why) now
-      → RunsText context May set s text (Refused why) now
-  not_read : NeedsOne context set s → RunsText context May set s text (Refused r.OutOfMemory) s
-
 -- a text is refused that isn't SQL over tables, or none that is run
 abbrev pub is_not_run : Outcome → Bool
 is_not_run (Refused r.SyntaxError) = true
 is_not_run (Refused r.NotSupported) = true
 is_not_run _ = false
 
--- What a text gives, what holds for commands then, and what the session has then seen. A text that isn't run and asks something of the
--- server is answered that. If there is no memory to read what it asks, that is told.
-pub data GivesText {S : Type 0} (context : SessionContext S) (May : S → List ℕ → Outcome → S → Type 0) (set : Settings) (s : S) (text : List ℕ) : Outcome → Settings → S → Type 0 where
-  run : {outcome : Outcome} {now : S} → RunsText context May set s text outcome now → (is_not_run outcome ≡ true → (statement : ClientStatement) → Asks text statement → ⊥)
-      → GivesText context May set s text outcome set now
-  asked : {outcome reply : Outcome} {then : Settings} {mid now : S} (statement : ClientStatement) → RunsText context May set s text outcome mid → is_not_run outcome ≡ true
-      → Asks text statement → AnswersClient context May set mid statement reply then now → GivesText context May set s text reply then now
-  unread : {outcome : Outcome} {now : S} → RunsText context May set s text outcome now → is_not_run outcome ≡ true → GivesText context May set s text (Refused r.OutOfMemory) set now
+module _ {S : Type 0} (context : SessionContext S) (May : S → List ℕ → Outcome → S → Type 0) (set : Settings) where
+  -- What a statement gives that asks something of the server. START TRANSACTION with what each transaction here has is BEGIN. Autocommit that is
+  -- turned on commits an open transaction as COMMIT does; if that is refused it stays off.
+  pub data AnswersClient (s : S) : ClientStatement → Outcome → Settings → S → Type 0 where
+    begun : {outcome : Outcome} {now : S} → May s (codes "BEGIN") outcome now → AnswersClient s Begin outcome set now
+    turned_on : set.autocommit ≡ false → context.is_open s ≡ false
+        → AnswersClient s (Set (Some true)) (Count 0) (record set { autocommit = true }) s
+    committed : {now : S} → set.autocommit ≡ false → context.is_open s ≡ true → May s (codes "COMMIT") (Count 0) now
+        → AnswersClient s (Set (Some true)) (Count 0) (record set { autocommit = true }) now
+    not_committed : {why : Refusal} {now : S} → set.autocommit ≡ false → context.is_open s ≡ true → May s (codes "COMMIT") (Refused why) now
+        → AnswersClient s (Set (Some true)) (Refused why) set now
+    by_itself : {statement : ClientStatement} {outcome : Outcome} {then : Settings} → TellsClient context.schema context.handshake set statement outcome then
+        → AnswersClient s statement outcome then s
+
+  -- What a text gives that is run over the tables, and what the session has then seen. With autocommit off one that opens a transaction gives,
+  -- if none is open, what it gives after BEGIN, or BEGIN's refusal. It may be that there is no memory to read whether it opens one.
+  pub data RunsText (s : S) (text : List ℕ) : Outcome → S → Type 0 where
+    alone : {outcome : Outcome} {now : S} → (NeedsOne context set s → OpensOne text → ⊥) → May s text outcome now → RunsText s text outcome now
+    after_begin : {outcome : Outcome} {mid now : S} → NeedsOne context set s → OpensOne text → May s (codes "BEGIN") (Count 0) mid → May mid text outcome now
+        → RunsText s text outcome now
+    not_begun : {why : Refusal} {now : S} → NeedsOne context set s → OpensOne text → May s (codes "BEGIN") (Refused why) now
+        → RunsText s text (Refused why) now
+    not_read : NeedsOne context set s → RunsText s text (Refused r.OutOfMemory) s
+
+  -- What a text gives, what holds for commands then, and what the session has then seen. A text that isn't run and asks something of the
+  -- server is answered that. If there is no memory to read what it asks, that is told.
+  pub data GivesText (s : S) (text : List ℕ) : Outcome → Settings → S → Type 0 where
+    run : {outcome : Outcome} {now : S} → RunsText s text outcome now → (is_not_run outcome ≡ true → (statement : ClientStatement) → Asks text statement → ⊥)
+        → GivesText s text outcome set now
+    asked : {outcome reply : Outcome} {then : Settings} {mid now : S} (statement : ClientStatement) → RunsText s text outcome mid → is_not_run outcome ≡ true
+        → Asks text statement → AnswersClient mid statement reply then now → GivesText s text reply then now
+    unread : {outcome : Outcome} {now : S} → RunsText s text outcome now → is_not_run outcome ≡ true → GivesText s text (Refused r.OutOfMemory) set now
