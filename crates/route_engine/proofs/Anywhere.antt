@@ -30,7 +30,7 @@ use Rattle.shard.proofs.Moves.{pending_may}
 use Rattle.shard.proofs.Pendings.{legal_then, stands_then, held_then, one_then, serves_then}
 use Rattle.shard_calls.specs.declared.reply.Selected.{Selected}
 use Rattle.shard_calls.specs.declared.reply.Answer.TheVariants.{Rows, Count}
-use Rattle.shard_calls.specs.Answers.{NeedsAlone, needed_by}
+use Rattle.shard_calls.specs.Answers.{WritesAlone, needed_by}
 use Rattle.shard_calls.specs.Alone as over
 use Rattle.shard_calls.specs.Transactions.{TransactionStatement, Transaction, needed_for}
 use Rattle.shard_calls.specs.Pendings as stands
@@ -93,7 +93,7 @@ module _ (o : Opening) (opens : IsOpening o) (formed : is_vschema o.schema ≡ t
 
   -- a primary key that is there already on the one shard is there in the one database
   pub duplicate_over : (s : ShardRecord) (run : Run) → IsOnItsSlot o run s → IsLegal (MayFollow o) run → mode o run s.slot ≡ Serving → (w : Write)
-      → IsTypedWrite o.schema w → NeedsAlone o w s → changes_of o.schema w (shard_rows o run s) ≡ Err DuplicateKey
+      → IsTypedWrite o.schema w → WritesAlone o w s → changes_of o.schema w (shard_rows o run s) ≡ Err DuplicateKey
       → changes_of o.schema w (database o run) ≡ Err DuplicateKey
   duplicate_over s run stands legal serves w is alone refused =
       let n = written_table w in
@@ -105,7 +105,7 @@ module _ (o : Opening) (opens : IsOpening o) (formed : is_vschema o.schema ≡ t
   -- and so it is with the transaction's own writes
   pub duplicate_in : (s : ShardRecord) (run : Run) (tx : PendingView) (steps : List TransactionStatement) → g.IsAt o s run tx steps → IsOnItsSlot o run s
       → mode o run s.slot ≡ Serving → (session number : ℕ) → NumbersBelow commit_of session number run → (w : Write)
-      → IsTypedWrite o.schema w → NeedsAlone o w s → changes_of o.schema w (all_applied tx.changes (shard_rows o run s)) ≡ Err DuplicateKey
+      → IsTypedWrite o.schema w → WritesAlone o w s → changes_of o.schema w (all_applied tx.changes (shard_rows o run s)) ≡ Err DuplicateKey
       → changes_of o.schema w (all_applied tx.changes (database o run)) ≡ Err DuplicateKey
   duplicate_in s run tx steps at stands serves session number low w is alone refused =
       let may = pending_may o s opens run tx at.pending stands serves session number low in

@@ -39,7 +39,7 @@ use Rattle.shard_calls.specs.declared.reply.Tried.TheVariants.{Done}
 use Rattle.shard_calls.specs.Alone as over
 use Rattle.shard_calls.specs.Alone.{GivesOver}
 use Rattle.shard_calls.specs.Answers as a
-use Rattle.shard_calls.specs.Answers.{needed, needed_by, NeedsAlone, HasGone, HasServed, WasFound, IsHeldUp, IsShardRefusal, MayWriteRefuse, is_writable}
+use Rattle.shard_calls.specs.Answers.{needed, needed_by, WritesAlone, HasGone, HasServed, WasFound, IsHeldUp, IsShardRefusal, MayWriteRefuse, is_writable}
 use Rattle.shard_calls.specs.inner.Scatter.{IsTried, written, again, tried}
 use Rattle.shard_calls.proofs.Finding.{served_at}
 use Rattle.shard_calls.proofs.Gathers.{stays}
@@ -88,7 +88,7 @@ module _ (o : Opening) (opens : IsOpening o) (formed : is_vschema o.schema ≡ t
       in_place : s.place ≡ place
       in_place = at_place ∙ at_home
 
-      alone : NeedsAlone o w s
+      alone : WritesAlone o w s
       alone = record {
         seats = seats;
         partition = is;

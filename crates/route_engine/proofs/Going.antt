@@ -30,7 +30,7 @@ use Rattle.shard_contents.specs.Transactions.{PendingView, nothing_done, is_conf
 use Rattle.shard.proofs.Moves.{rows_after_stay, still_touched, now_touched, touch_of, now_touched_all, pending_later, pending_touches_all, pending_writes, pending_nothing}
 use Rattle.shard_calls.specs.declared.reply.Selected.{Selected}
 use Rattle.shard_calls.specs.declared.reply.Answer.TheVariants.{Rows, Count}
-use Rattle.shard_calls.specs.Answers.{NeedsAlone}
+use Rattle.shard_calls.specs.Answers.{WritesAlone}
 use Rattle.shard_calls.specs.Transactions.{TransactionStatement, GiveOver, ReadsAlone, if_any, used, write_on, writes_in, with_step}
 use Rattle.shard_calls.specs.Pendings as p
 use Rattle.shard_calls.specs.Pendings.{GaveOnShard, IsAnywhere}
@@ -166,7 +166,7 @@ module _ (o : Opening) (s : ShardRecord) where
 
   -- a write
   pub at_writes : (run : Run) (tx : PendingView) (steps : List TransactionStatement) (t : Touch) (w : Write) (more : List RowChange) → IsAt run tx steps
-      → t.table ≡ written_table w → IsTouchBy o s run t → NeedsAlone o w s → IsTypedWrite o.schema w
+      → t.table ≡ written_table w → IsTouchBy o s run t → WritesAlone o w s → IsTypedWrite o.schema w
       → IsChangeOf o.schema w (all_applied tx.changes (shard_rows o run s)) more
       → IsAt run (record { touched = touched_with tx.touched t; writes = tx.writes ++ w ∷ []; changes = tx.changes ++ more })
       (with_step steps (typed.Write w) (Count (length more)) (Some s) run)

@@ -34,7 +34,7 @@ use Rattle.shard.proofs.Moves.{all_touched, touch_of, all_touched_all}
 use Rattle.shard_calls.specs.declared.reply.Selected.{Selected}
 use Rattle.shard_calls.specs.declared.reply.Answer.TheVariants.{Rows, Count}
 use Rattle.shard.specs.Seats.{seat_of}
-use Rattle.shard_calls.specs.Answers.{needed, NeedsAlone}
+use Rattle.shard_calls.specs.Answers.{needed, WritesAlone}
 use Rattle.shard_calls.specs.Transactions as gives
 use Rattle.shard_calls.specs.Transactions.{TransactionStatement, KeptPartition, Transaction, PassAndTx, NeedsBy, GiveOver, AreOver, GivesIn, IsCommitted, IsConflict, ReadsAlone, tables_of, if_any, used, writes_in, with_step, reads_of}
 use Rattle.shard_calls.specs.Pendings as stands
@@ -179,7 +179,7 @@ module _ (o : Opening) (opens : IsOpening o) (formed : is_vschema o.schema ≡ t
       )
 
   -- A write.
-  pub writes_here : (w : Write) (count : ℕ) (pending : PendingView) (seats : List Seat) → NeedsBy o t (typed.Write w) seats s → NeedsAlone o w s → IsTypedWrite o.schema w
+  pub writes_here : (w : Write) (count : ℕ) (pending : PendingView) (seats : List Seat) → NeedsBy o t (typed.Write w) seats s → WritesAlone o w s → IsTypedWrite o.schema w
       → HasWrittenIn o s v now.seen w count pending
       → GivesIn o limits p t (typed.Write w) (record { answer = Count count; reads = [] })
       (record { pass = now; tx = Some (record { at = now.seen; steps = with_step t.steps (typed.Write w) (Count count) (Some s) now.seen; kept = kept_on seats }) })

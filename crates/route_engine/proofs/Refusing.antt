@@ -21,7 +21,7 @@ use Rattle.shard_law.specs.declared.limits.Limits.{Limits}
 use Rattle.shard_law.specs.Entries.{commit_of}
 use Rattle.shard_contents.specs.Transactions as tx
 use Rattle.shard_contents.specs.Transactions.{PendingView, IsClear, IsStopped, IsReadRefusal, IsWriteRefusal, IsCommitAllRefusal}
-use Rattle.shard_calls.specs.Answers.{NeedsAlone, HasServed}
+use Rattle.shard_calls.specs.Answers.{WritesAlone, HasServed}
 use Rattle.shard_calls.specs.Transactions as t
 use Rattle.shard_calls.specs.Transactions.{Transaction, PassAndTx, IsFor, IsItsShard, IsUndisturbed, IsRefusedIn, used, writes_in}
 use Rattle.shard_calls.specs.inner.InTransactions.{left_by}
@@ -58,7 +58,7 @@ module _ (o : Opening) (limits : Limits) (s : ShardRecord) (p now : PassView Ent
   not_read_in typed for e (tx.stopped why) = stopped typed for e why
 
   module _ (opens : IsOpening o) (formed : is_vschema o.schema ≡ true) (session number : ℕ) (low : NumbersBelow commit_of session number now.seen) where
-    pub not_written_in : (w : Write) → IsTypedWrite o.schema w → IsFor o tr (typed.Write w) s → NeedsAlone o w s → (e : Refusal)
+    pub not_written_in : (w : Write) → IsTypedWrite o.schema w → IsFor o tr (typed.Write w) s → WritesAlone o w s → (e : Refusal)
         → IsWriteRefusal o s now.seen v w e → IsRefusedIn o limits p tr (typed.Write w) e (left e)
     not_written_in w is for alone _ tx.no_memory = t.no_memory (gone_by o s.slot p now ready.looked)
     not_written_in w is for alone e (tx.stopped why) = stopped (typed.Write w) for e why

@@ -37,7 +37,8 @@ use Rattle.shard_calls.specs.declared.reply.Answer.{Answer}
 use Rattle.shard_calls.specs.declared.reply.Answer.TheVariants.{Rows, Count}
 use Rattle.shard_calls.specs.declared.reply.ShardRead.{ShardRead}
 use Rattle.shard.specs.Seats.{seat_of}
-use Rattle.shard_calls.specs.Answers.{HasGone, NeedsAlone}
+use Rattle.shard_calls.specs.Answers.{HasGone, WritesAlone}
+use Rattle.shard_calls.specs.Alone as over
 use Rattle.shard_calls.specs.Transactions as t
 use Rattle.shard_calls.specs.Transactions.{TransactionStatement, KeptPartition, Transaction, PassAndTx, IsJudgedBy, NeedsBy, GiveOver, AreOver, GivesIn, IsRefusedIn, ReadsAlone, if_any, used, with_step, seats_for, statement_keyspace}
 use Rattle.shard_calls.specs.Pendings as stands
@@ -69,7 +70,7 @@ over_from : (o : Opening) (run : Run) → IsLegal (MayFollow o) run → (front r
 over_from o run legal front [] so_far all = subst (λ (l : List TransactionStatement). GiveOver o.schema (database o run) l (database o run)) (sym (append-nil front)) so_far
 over_from o run legal front (step ∷ rest) so_far all =
     subst (λ (l : List TransactionStatement). GiveOver o.schema (database o run) l (database o run)) (append_assoc front (step ∷ []) rest)
-    (over_from o run legal (front ++ step ∷ []) rest (t.next step so_far (all.0.same run legal)) all.1)
+    (over_from o run legal (front ++ step ∷ []) rest (over.next step so_far (all.0.same run legal)) all.1)
 
 none_used : (o : Opening) (steps : List TransactionStatement) → AllByRecursion (IsAnywhere o) steps → used steps ≡ []
 none_used o [] all = refl
@@ -132,7 +133,7 @@ module _ (o : Opening) (opens : IsOpening o) (formed : is_vschema o.schema ≡ t
   goes_anywhere v tr (stands.unbound l all none) typed answer any =
       let last : TransactionStatement = record { typed = typed; answer = answer; on = None; seen = p.seen } in (
         Some (record { at = tr.at; steps = tr.steps ++ last ∷ []; kept = tr.kept }),
-        t.nowhere any.none (database o tr.at, over_from o tr.at l [] (tr.steps ++ last ∷ []) t.none (all-append (IsAnywhere o) tr.steps (last ∷ []) all (any, tt))),
+        t.nowhere any.none (database o tr.at, over_from o tr.at l [] (tr.steps ++ last ∷ []) over.none (all-append (IsAnywhere o) tr.steps (last ∷ []) all (any, tt))),
         stands.unbound l (all-append (IsAnywhere o) tr.steps (last ∷ []) all (any, tt)) none,
       )
   goes_anywhere v tr (stands.bound is) typed answer any =
@@ -186,7 +187,7 @@ module _ (o : Opening) (opens : IsOpening o) (formed : is_vschema o.schema ≡ t
   }
 
   writes_alone : (wr : Write) (b : BoundView) → IsSeatOf (table_at o.schema (written_table wr)) (write_route o.schema wr) b → (s : ShardRecord)
-      → bound_of s b.seats ≡ b → NeedsAlone o wr s
+      → bound_of s b.seats ≡ b → WritesAlone o wr s
   writes_alone wr b seat s same = record {
     seats = b.seats;
     partition = seat.partition;

@@ -29,10 +29,10 @@ use Rattle.shard_contents.proofs.Legality.{legal_is, part_held}
 use Rattle.shard.proofs.Pendings.{may_nothing, may_next, legal_then, stands_then, held_then, one_then, serves_then}
 use Rattle.shard_calls.specs.declared.reply.Answer.TheVariants.{Rows, Count}
 use Rattle.shard.specs.Seats.{seat_of}
-use Rattle.shard_calls.specs.Answers.{NeedsAlone}
+use Rattle.shard_calls.specs.Answers.{WritesAlone}
 use Rattle.shard_calls.specs.Alone as over
 use Rattle.shard_calls.specs.Alone.{GivesOver}
-use Rattle.shard_calls.specs.Transactions.{TransactionStatement, GiveOver, none, next, ReadsAlone}
+use Rattle.shard_calls.specs.Transactions.{TransactionStatement, GiveOver, ReadsAlone}
 use Rattle.shard_calls.specs.Pendings as p
 use Rattle.shard_calls.specs.Pendings.{GaveOnShard, IsAnywhere}
 use Rattle.route_engine.proofs.SeatRows.{answers_kept_of, kept_alone}
@@ -40,7 +40,7 @@ use Rattle.route_engine.proofs.Trying.{placed}
 use Rattle.route_engine.proofs.WholeWrites.{whole_changes}
 
 -- the rows that a write adds lie in the place of the one shard that it needs
-pub placed_on : (o : Opening) (w : Write) → IsTypedWrite o.schema w → (s : ShardRecord) → NeedsAlone o w s → IsPlaced o.schema s.place w
+pub placed_on : (o : Opening) (w : Write) → IsTypedWrite o.schema w → (s : ShardRecord) → WritesAlone o w s → IsPlaced o.schema s.place w
 placed_on o w is s alone =
     subst (λ (k : ℕ). IsPlaced o.schema (record { keyspace = k; range = s.place.range }) w) (sym alone.keyspace)
     (placed o w is alone.seats alone.partition (seat_of s) alone.only)
@@ -62,7 +62,7 @@ module _ (o : Opening) (opens : IsOpening o) (formed : is_vschema o.schema ≡ t
 
   -- a write over the rows of the one shard that it needs
   pub wrote_over : (run : Run) → IsOnItsSlot o run s → IsLegal (MayFollow o) run → mode o run s.slot ≡ Serving → (w : Write)
-      → IsTypedWrite o.schema w → NeedsAlone o w s → (more : List RowChange) → IsChangeOf o.schema w (shard_rows o run s) more
+      → IsTypedWrite o.schema w → WritesAlone o w s → (more : List RowChange) → IsChangeOf o.schema w (shard_rows o run s) more
       → IsChangeOf o.schema w (database o run) more
   wrote_over run stands legal serves w is alone more changed =
       let here : Database = restrict o.schema s.place (database o run) in
@@ -80,7 +80,7 @@ module _ (o : Opening) (opens : IsOpening o) (formed : is_vschema o.schema ≡ t
 
     pub lifted : (steps : List TransactionStatement) (writes : List Write) (changes : List RowChange) → GaveOnShard o s run touched steps writes changes
         → Lifted steps writes changes
-    lifted _ _ _ p.none = record { may = may_nothing o opens s run stands legal serves session number low; over = none }
+    lifted _ _ _ p.none = record { may = may_nothing o opens s run stands legal serves session number low; over = over.none }
     lifted _ writes changes (p.anywhere {steps} step told is) =
         let rest = lifted steps writes changes told in
         let e : Entry = entry_of s session number writes changes in
@@ -89,7 +89,7 @@ module _ (o : Opening) (opens : IsOpening o) (formed : is_vschema o.schema ≡ t
         record {
           may = rest.may;
           over =
-              next step rest.over
+              over.next step rest.over
               (subst (λ (d : Database). GivesOver o.schema d step.typed step.answer d) one_is (is.same (run ++ e ∷ []) then));
         }
     lifted _ writes changes (p.read {steps} q selected seen told alone there joins on table join items qualified allowed) =
@@ -106,7 +106,7 @@ module _ (o : Opening) (opens : IsOpening o) (formed : is_vschema o.schema ≡ t
         record {
           may = rest.may;
           over =
-              next (record { typed = typed.Select q; answer = Rows selected; on = Some s; seen = seen }) rest.over
+              over.next (record { typed = typed.Select q; answer = Rows selected; on = Some s; seen = seen }) rest.over
               (over.selects table join items qualified (subst (λ (d : Database). Allowed q d selected.rows) one_is answer));
         }
     lifted _ _ _ (p.wrote {steps} {writes} {changes} w more seen told alone is on changed) =
@@ -124,6 +124,6 @@ module _ (o : Opening) (opens : IsOpening o) (formed : is_vschema o.schema ≡ t
           over =
               subst (GiveOver o.schema (database o run) (steps ++ record { typed = typed.Write w; answer = Count (length more); on = Some s; seen = seen } ∷ []))
               (sym (applied-append changes more (database o run)))
-              (next (record { typed = typed.Write w; answer = Count (length more); on = Some s; seen = seen }) rest.over
+              (over.next (record { typed = typed.Write w; answer = Count (length more); on = Some s; seen = seen }) rest.over
               (over.writes more (subst (λ (d : Database). IsChangeOf o.schema w d more) one_is of)));
         }

@@ -35,7 +35,7 @@ use Rattle.shard_contents.specs.Commits.{IsPlaced}
 use Rattle.shard_calls.specs.declared.reply.Tried.{Tried}
 use Rattle.shard_calls.specs.declared.reply.Tried.TheVariants.{Done, Again}
 use Rattle.shard_calls.specs.Answers as a
-use Rattle.shard_calls.specs.Answers.{needed, needed_by, NeedsAlone, HasGone, HasWritten, IsHeldUp, MayWriteRefuse, is_writable}
+use Rattle.shard_calls.specs.Answers.{needed, needed_by, HasGone, HasWritten, IsHeldUp, MayWriteRefuse, is_writable}
 use Rattle.shard_calls.specs.inner.Scatter.{IsTried, written, again}
 use Rattle.shard_law.proofs.Fitting.{fits-from_typed}
 use Rattle.route_engine.proofs.Everywhere.{everywhere}

@@ -37,7 +37,7 @@ use Rattle.shard_law.proofs.Rows.{row_is}
 use Rattle.shard_law.proofs.Typed.{table_there}
 use Rattle.serving.specs.Partitions.{Seat, IsPartition}
 use Rattle.shard.specs.Seats.{seat_of}
-use Rattle.shard_calls.specs.Answers.{needed, needed_by, NeedsAlone}
+use Rattle.shard_calls.specs.Answers.{needed, needed_by, WritesAlone}
 use Rattle.route_engine.proofs.Everywhere.{rows_restricted}
 use Rattle.route_engine.proofs.Moments.{placed_at}
 use Rattle.route_engine.proofs.Placing.{row_taken, only_one}
@@ -261,7 +261,7 @@ module _ (o : Opening) (opens : IsOpening o) (formed : is_vschema o.schema ≡ t
       ∙ over_here seats partition w typed (table_there o.schema w typed) seat alone
 
   -- the changes on the one shard are those of the whole database
-  pub whole_changes : (w : Write) → IsTypedWrite o.schema w → (s : ShardRecord) → NeedsAlone o w s
+  pub whole_changes : (w : Write) → IsTypedWrite o.schema w → (s : ShardRecord) → WritesAlone o w s
       → changes_of o.schema w (restrict o.schema s.place (database o run)) ≡ changes_of o.schema w (database o run)
   whole_changes w typed s alone =
       ap (λ (k : ℕ). changes_of o.schema w (restrict o.schema (record { keyspace = k; range = s.place.range }) (database o run))) alone.keyspace

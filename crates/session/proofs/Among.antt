@@ -39,6 +39,7 @@ use Rattle.route_engine.proofs.Over.{reply_over, refusal_over}
 use Rattle.session.specs.Alone.{AnsweredStatement, InTurn, LeavesAll, told_of}
 use Rattle.session.proofs.OneDatabase.{map-push, in_turn, all_stay, reads_leave, nothing_written, none_left, none_right}
 use Rattle.session.proofs.Steps.{committed_later}
+use Rattle.session.specs.Alone as next
 use Rattle.session.specs.Among as m
 use Rattle.session.specs.Among.{told_in, IsEverywhere, GivesAmong, AnswersAmong}
 use Rattle.session.specs.inner.TypedSteps.{IsTypedStep, AreTyped}
@@ -96,7 +97,7 @@ module _ (o : Opening) (opens : IsOpening o) (formed : is_vschema o.schema ≡ t
   all_nowhere done [] give all = subst (λ (l : List TransactionStatement). GiveOver o.schema (database o run) l (database o run)) (sym (append-nil done)) give
   all_nowhere done (step ∷ rest) give all =
       subst (λ (l : List TransactionStatement). GiveOver o.schema (database o run) l (database o run)) (append_assoc done (step ∷ []) rest)
-      (all_nowhere (done ++ step ∷ []) rest (x.next step give (all.0.same run legal)) all.1)
+      (all_nowhere (done ++ step ∷ []) rest (over.next step give (all.0.same run legal)) all.1)
 
 -- without a shard
 on_none : (steps : List TransactionStatement) → used steps ≡ [] → AllByRecursion (λ step. step.on ≡ None) steps
@@ -143,7 +144,7 @@ module _ (o : Opening) (opens : IsOpening o) (formed : is_vschema o.schema ≡ t
         → Among p (Some tx) typed.Commit (Rattle.shard_calls.specs.declared.reply.Answer.TheVariants.Count 0) (record { pass = now; tx = None })
     commits_at now after done is =
         subst (λ (db : Database). GivesAmong o (database o p.seen) (Some (map told_of tx.steps)) typed.Commit (Rattle.shard_calls.specs.declared.reply.Answer.TheVariants.Count 0) db None)
-        (sym is) (m.commits done)
+        (sym is) (m.alone (next.commits done))
 
     gives_in : (t : Typed) (reply : Reply) (now : PassAndTx) (q' : PassView Entry) (w : Option OpenView) → IsLegal (MayFollow o) p.seen → NoOthers p now.pass
         → Represents o q' w now.tx → GivesIn o l p tx t reply now → Among p (Some tx) t reply.answer now
@@ -161,12 +162,12 @@ module _ (o : Opening) (opens : IsOpening o) (formed : is_vschema o.schema ≡ t
         subst (λ (told : List AnsweredStatement). InTurn o.schema (database o p.seen) told over.0) (map-push tx.steps step)
         (done_here now (tx.steps ++ step ∷ []) over.0 still over.1) in
         steps_on now typed answer (Some s) now.seen now.seen (Some (record { keyspace = s.place.keyspace; seats = seats })) still
-        (λ told is. m.within told (subst (λ (u : AnsweredStatement). InTurn o.schema (database o p.seen) (map told_of tx.steps ++ u ∷ []) over.0) (sym is) done))
+        (λ told is. m.alone (next.within told (subst (λ (u : AnsweredStatement). InTurn o.schema (database o p.seen) (map told_of tx.steps ++ u ∷ []) over.0) (sym is) done)))
     gives_in _ _ _ q' w legal others after (x.commits_nothing none) =
         let all : AllByRecursion (IsAnywhere o) tx.steps =
         all_both (λ (step : TransactionStatement). step.on ≡ None) (IsAnywhere o) tx.steps (λ step h is. anywhere_kept o q v tx kept step h is) (on_none tx.steps none) in
         commits_at p (database o p.seen)
-        (in_turn o.schema (database o p.seen) tx.steps (database o p.seen) (all_nowhere o opens formed p.seen legal [] tx.steps x.none all)) refl
+        (in_turn o.schema (database o p.seen) tx.steps (database o p.seen) (all_nowhere o opens formed p.seen legal [] tx.steps over.none all)) refl
     gives_in _ _ _ q' w legal others after (x.commits_reads {now} s uses none looked serves clear over) =
         let still = looked_unchanged p now others o s.slot looked in
         let same = all_stay o.schema (database o now.seen) tx.steps over.0 over.1 (idle now.seen looked.legal) none in
@@ -178,7 +179,7 @@ module _ (o : Opening) (opens : IsOpening o) (formed : is_vschema o.schema ≡ t
         commits_at now (database o now.seen)
         (subst (λ (db : Database). InTurn o.schema db (map told_of tx.steps) (database o now.seen)) (one_still o p.seen c.before before)
         (in_turn o.schema (database o c.before) tx.steps (database o now.seen) c.over)) refl
-    gives_in _ _ _ q' w legal others after x.rolls_back = m.rolls_back
+    gives_in _ _ _ q' w legal others after x.rolls_back = m.alone next.rolls_back
 
   others_counted : (p now : PassView Entry) → NoOthers p now → NoOthers (counted p) now
   others_counted p now h = record { session = h.session; of_session = h.of_session; added = h.added; seen = h.seen; own = h.own }
@@ -199,10 +200,10 @@ module _ (o : Opening) (opens : IsOpening o) (formed : is_vschema o.schema ≡ t
       → AreTyped o tx → GivesAt o l (counted p) tx t reply now → Answered p tx reply now
   gives_at p _ t reply _ tree q q' v w reads is legal others kept after typed_all (x.alone {now} gives) =
       let said = reply_over o opens formed l text p now reply legal others (record { statement = tree; typed = t; reads = reads; resolved = is; gives = gives }) in
-      record { statement = said.statement; typed = said.typed; reads = said.reads; resolved = said.resolved; gives = m.by_itself said.gives }
-  gives_at p _ _ _ _ tree q q' v w reads is legal others kept after typed_all x.begins = answered p None typed.Begin done (record { pass = counted p; tx = Some (record { at = p.seen; steps = []; kept = None }) }) tree reads is m.begins
-  gives_at p _ _ _ _ tree q q' v w reads is legal others kept after typed_all x.commits = answered p None typed.Commit done (record { pass = counted p; tx = None }) tree reads is m.none_to_commit
-  gives_at p _ _ _ _ tree q q' v w reads is legal others kept after typed_all x.rolls_back = answered p None typed.Rollback done (record { pass = counted p; tx = None }) tree reads is m.none_to_roll_back
+      record { statement = said.statement; typed = said.typed; reads = said.reads; resolved = said.resolved; gives = m.alone (next.by_itself said.gives) }
+  gives_at p _ _ _ _ tree q q' v w reads is legal others kept after typed_all x.begins = answered p None typed.Begin done (record { pass = counted p; tx = Some (record { at = p.seen; steps = []; kept = None }) }) tree reads is (m.alone next.begins)
+  gives_at p _ _ _ _ tree q q' v w reads is legal others kept after typed_all x.commits = answered p None typed.Commit done (record { pass = counted p; tx = None }) tree reads is (m.alone next.none_to_commit)
+  gives_at p _ _ _ _ tree q q' v w reads is legal others kept after typed_all x.rolls_back = answered p None typed.Rollback done (record { pass = counted p; tx = None }) tree reads is (m.alone next.none_to_roll_back)
   gives_at p _ t reply now tree q q' v w reads is legal others kept after typed_all (x.within {tx} gives) =
       answered p (Some tx) t reply now tree reads is
       (gives_in (counted p) tx q v kept typed_all t reply now q' w legal (others_counted p now.pass others) after gives)

@@ -85,15 +85,15 @@ writes_none (step ∷ steps) e =
 -- ---- statements one after the other
 
 pub in_turn : (schema : VSchema) (db : Database) (steps : List TransactionStatement) (after : Database) → GiveOver schema db steps after → InTurn schema db (map told_of steps) after
-in_turn schema db _ _ x.none = alone.none
-in_turn schema db _ _ (x.next {steps} {mid} {after} step give gives) =
-    subst (λ (l : List AnsweredStatement). InTurn schema db l after) (sym (map-push steps step)) (alone.next (told_of step) (in_turn schema db steps mid give) gives)
+in_turn schema db _ _ over.none = over.none
+in_turn schema db _ _ (over.next {before = steps} {mid} {after} step give gives) =
+    subst (λ (l : List AnsweredStatement). InTurn schema db l after) (sym (map-push steps step)) (over.next (told_of step) (in_turn schema db steps mid give) gives)
 
 -- without writes they leave the database
 pub all_stay : (schema : VSchema) (db : Database) (steps : List TransactionStatement) (after : Database) → GiveOver schema db steps after → AllByRecursion (LeavesAll schema db) steps
     → writes_in steps ≡ [] → after ≡ db
-all_stay schema db _ _ x.none all none = refl
-all_stay schema db _ _ (x.next {steps} {mid} {after} step give gives) all none =
+all_stay schema db _ _ over.none all none = refl
+all_stay schema db _ _ (over.next {before = steps} {mid} {after} step give gives) all none =
     let split : writes_in steps ++ writes_in (step ∷ []) ≡ [] = sym (flat_map-append (λ (s : TransactionStatement). write_on s.on s.typed) steps (step ∷ [])) ∙ none in
     let here : mid ≡ db =
     all_stay schema db steps mid give (all_front (LeavesAll schema db) steps (step ∷ []) all) (none_left (writes_in steps) (writes_in (step ∷ [])) split) in
@@ -315,7 +315,7 @@ module _ (o : Opening) (opens : IsOpening o) (formed : is_vschema o.schema ≡ t
         state = record { db = database o p.seen; open_one = Some [] };
         holds = alone.begins;
         rows = refl;
-        tx = record { at = still_self p.seen; same = refl; seen = tt; over = (database o p.seen, x.none); idle = tt };
+        tx = record { at = still_self p.seen; same = refl; seen = tt; over = (database o p.seen, over.none); idle = tt };
       })
   gives_at_over p _ (Some told) _ _ _ tree reads is legal others h x.begins = absurd h
   gives_at_over p _ None _ _ _ tree reads is legal others h x.commits =

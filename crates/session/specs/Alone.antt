@@ -18,7 +18,7 @@ use Rattle.shard_run.specs.Runs.{Run, Opening, database}
 use Rattle.shard_law.specs.declared.limits.Limits.{Limits}
 use Rattle.shard_calls.specs.declared.reply.Answer.{Answer}
 use Rattle.shard_calls.specs.declared.reply.Answer.TheVariants.{Count}
-use Rattle.shard_calls.specs.Alone.{NoCommits, GivesOver, IsRefusedOver}
+use Rattle.shard_calls.specs.Alone.{NoCommits, GivesOver, GiveInTurn, IsRefusedOver}
 use Rattle.shard_calls.specs.Transactions.{TransactionStatement, Transaction, GiveOver, write_on}
 use Rattle.conversation.specs.declared.access.Handshake.{Handshake}
 use Rattle.conversation.specs.SessionContext.{SessionContext}
@@ -36,11 +36,8 @@ pub record OneState : Type 0 where
   pub db : Database
   pub open_one : Option (List AnsweredStatement)
 
--- The statements gave their answers, one after the other, from the one database to the other.
-pub data InTurn (schema : VSchema) (db : Database) : List AnsweredStatement → Database → Type 0 where
-  none : InTurn schema db [] db
-  next : {told : List AnsweredStatement} {mid after : Database} (t : AnsweredStatement) → InTurn schema db told mid → GivesOver schema mid t.typed t.answer after
-      → InTurn schema db (told ++ t ∷ []) after
+abbrev pub InTurn : VSchema → Database → List AnsweredStatement → Database → Type 0
+InTurn = GiveInTurn (λ (t : AnsweredStatement). t.typed) (λ (t : AnsweredStatement). t.answer)
 
 -- What a statement gives, and the state after it. In a transaction it gives what it means after the transaction's statements so far, which
 -- COMMIT does all at once, and ROLLBACK never.

@@ -3,17 +3,15 @@ use Rattle.std.specs.Prelude.{◌≡◌, ℕ, List, [], ◌∷◌, ◌++◌, map
 use Rattle.sql_tree.specs.declared.Statement.{Statement}
 use Rattle.sql_parser.specs.Grammar.{Reads}
 use Rattle.vschema.specs.declared.schema.Typed.{Typed}
-use Rattle.vschema.specs.declared.schema.Typed.TheVariants as typed
 use Rattle.vschema.specs.Database.{Database}
 use Rattle.vschema.specs.TypedStatement.{typed_statement}
 use Rattle.journal.specs.Runs.{IsLegal}
 use Rattle.shard_run.specs.Runs.{Run, Opening, database}
 use Rattle.shard_law.specs.Entries.{MayFollow}
 use Rattle.shard_calls.specs.declared.reply.Answer.{Answer}
-use Rattle.shard_calls.specs.declared.reply.Answer.TheVariants.{Count}
 use Rattle.shard_calls.specs.Alone.{GivesOver}
 use Rattle.shard_calls.specs.Transactions.{Transaction}
-use Rattle.session.specs.Alone.{AnsweredStatement, InTurn, told_of}
+use Rattle.session.specs.Alone.{AnsweredStatement, GivesNext, told_of}
 
 -- the answered statements of a transaction, if one is open
 abbrev pub told_in : Option Transaction → Option (List AnsweredStatement)
@@ -25,18 +23,11 @@ abbrev pub IsEverywhere : Opening → AnsweredStatement → Type 0
 IsEverywhere o t = (run : Run) → IsLegal (MayFollow o) run → GivesOver o.schema (database o run) t.typed t.answer (database o run)
 
 -- What a statement gives over the database that there is now, the database after it, and the answered statements of the transaction that is open
--- then. Without one it gives what it means by itself. In one it gives what it means after the transaction's statements so far, all over the
--- database that there is now; or the same over every one. COMMIT does them all at once to the database that there is now, and ROLLBACK never.
+-- then: what it gives if there is no other session; or, in a transaction, the same over every database that the shards can come to.
 pub data GivesAmong (o : Opening) (db : Database) : Option (List AnsweredStatement) → Typed → Answer → Database → Option (List AnsweredStatement) → Type 0 where
-  by_itself : {t : Typed} {answer : Answer} {after : Database} → GivesOver o.schema db t answer after → GivesAmong o db None t answer after None
-  begins : GivesAmong o db None typed.Begin (Count 0) db (Some [])
-  none_to_commit : GivesAmong o db None typed.Commit (Count 0) db None
-  none_to_roll_back : GivesAmong o db None typed.Rollback (Count 0) db None
-  within : {told : List AnsweredStatement} {after : Database} (t : AnsweredStatement) → InTurn o.schema db (told ++ t ∷ []) after
-      → GivesAmong o db (Some told) t.typed t.answer db (Some (told ++ t ∷ []))
+  alone : {open_one then : Option (List AnsweredStatement)} {t : Typed} {answer : Answer} {after : Database}
+      → GivesNext o.schema db open_one t answer (record { db = after; open_one = then }) → GivesAmong o db open_one t answer after then
   everywhere : {told : List AnsweredStatement} (t : AnsweredStatement) → IsEverywhere o t → GivesAmong o db (Some told) t.typed t.answer db (Some (told ++ t ∷ []))
-  commits : {told : List AnsweredStatement} {after : Database} → InTurn o.schema db told after → GivesAmong o db (Some told) typed.Commit (Count 0) after None
-  rolls_back : {told : List AnsweredStatement} → GivesAmong o db (Some told) typed.Rollback (Count 0) db None
 
 -- the text is a statement under the VSchema, and the answer is what it gives
 pub record AnswersAmong (o : Opening) (db : Database) (open_one : Option (List AnsweredStatement)) (text : List ℕ) (answer : Answer) (after : Database)

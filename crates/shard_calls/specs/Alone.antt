@@ -1,5 +1,5 @@
 -- What a statement gives over one database, which knows no shards, passes or entries.
-use Rattle.std.specs.Prelude.{◌≡◌, ℕ, List, ◌++◌, length, Some, None, Ok, Err}
+use Rattle.std.specs.Prelude.{◌≡◌, ℕ, List, [], ◌∷◌, ◌++◌, length, Some, None, Ok, Err}
 use Rattle.std.specs.List.{AllByRecursion}
 use Rattle.vt_value.specs.declared.refusal.Refusal.{Refusal}
 use Rattle.vt_value.specs.declared.refusal.Refusal.TheVariants.{OutOfMemory, SyntaxError, SeveralShards, DuplicateKey, BufferFull, ShardFull}
@@ -50,6 +50,13 @@ pub data GivesOver (schema : VSchema) (db : Database) : Typed → Answer → Dat
   writes : {w : Write} (changes : List RowChange) → IsChangeOf schema w db changes
       → GivesOver schema db (typed.Write w) (Count (length changes)) (all_applied changes db)
   sets_names : GivesOver schema db typed.SetNames (Count 0) db
+
+-- Statements gave their answers, one after the other, from the one database to the other.
+module _ {S : Type 0} (typed_of : S → Typed) (answer_of : S → Answer) (schema : VSchema) (db : Database) where
+  pub data GiveInTurn : List S → Database → Type 0 where
+    none : GiveInTurn [] db
+    next : {before : List S} {mid after : Database} (s : S) → GiveInTurn before mid → GivesOver schema mid (typed_of s) (answer_of s) after
+        → GiveInTurn (before ++ s ∷ []) after
 
 -- a query or a write
 abbrev pub UsesTables : Typed → Type 0

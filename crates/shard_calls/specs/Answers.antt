@@ -128,12 +128,15 @@ pub data MayReadRefuse (o : Opening) (p : PassView Entry) (query : Query) : Refu
 abbrev pub needed_by : Opening → Write → List Seat → List Seat
 needed_by o w seats = needed (table_at o.schema (written_table w)) (write_route o.schema w) seats
 
--- by some partition the write needs this shard alone
-pub record NeedsAlone (o : Opening) (w : Write) (s : ShardRecord) : Type 0 where
+-- by some partition a statement on the table with this route needs this shard alone
+pub record NeedsAlone (table : Table) (route : Route) (s : ShardRecord) : Type 0 where
   pub seats : List Seat
   pub partition : IsPartition seats
-  pub keyspace : s.place.keyspace ≡ (table_at o.schema (written_table w)).keyspace
-  pub only : needed_by o w seats ≡ seat_of s ∷ []
+  pub keyspace : s.place.keyspace ≡ table.keyspace
+  pub only : needed table route seats ≡ seat_of s ∷ []
+
+abbrev pub WritesAlone : Opening → Write → ShardRecord → Type 0
+WritesAlone o w s = NeedsAlone (table_at o.schema (written_table w)) (write_route o.schema w) s
 
 -- A write that needs no shard counts 0 and does nothing, which is what it means over the one database. Another needs one shard, on which the
 -- session has committed it, after looks at most. The reply counts what it means over the one database right before its entry, which leads to
@@ -142,7 +145,7 @@ pub data HasWritten (o : Opening) (limits : Limits) (p : PassView Entry) (w : Wr
   nowhere : {now : PassView Entry} (seats : List Seat) → IsPartition seats → needed_by o w seats ≡ [] → HasGone o p now
       → GivesOver o.schema (database o now.seen) (typed.Write w) (Count 0) (database o now.seen)
       → HasWritten o limits p w (record { answer = Count 0; reads = [] }) now
-  wrote : {count : ℕ} {since now : PassView Entry} (s : ShardRecord) → NeedsAlone o w s → HasGone o p since → (entry : HasCommitted o limits s since w count now)
+  wrote : {count : ℕ} {since now : PassView Entry} (s : ShardRecord) → WritesAlone o w s → HasGone o p since → (entry : HasCommitted o limits s since w count now)
       → GivesOver o.schema (database o entry.before) (typed.Write w) (Count count) (database o now.seen)
       → HasWritten o limits p w (record { answer = Count count; reads = [] }) now
 
@@ -175,5 +178,5 @@ pub data MayWriteRefuse (o : Opening) (limits : Limits) (p : PassView Entry) (w 
   buffer_full : {now : PassView Entry} → HasGone o p now
       → IsHeldUp o (table_at o.schema (written_table w)) (write_route o.schema w) is_writable p.seen now.seen
       → MayWriteRefuse o limits p w BufferFull now
-  refused : {r : Refusal} {since now : PassView Entry} (s : ShardRecord) → NeedsAlone o w s → HasGone o p since → HasLooked o s.slot since now
+  refused : {r : Refusal} {since now : PassView Entry} (s : ShardRecord) → WritesAlone o w s → HasGone o p since → HasLooked o s.slot since now
       → HasServed o now.seen s → mode o now.seen s.slot ≡ Serving → IsShardRefusal o limits s now.seen w r → MayWriteRefuse o limits p w r now

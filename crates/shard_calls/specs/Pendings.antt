@@ -25,7 +25,7 @@ use Rattle.shard_contents.specs.Transactions.{PendingView, nothing_done, is_touc
 use Rattle.shard_calls.specs.declared.reply.Selected.{Selected}
 use Rattle.shard_calls.specs.declared.reply.Answer.TheVariants.{Rows, Count}
 use Rattle.shard.specs.Seats.{seat_of}
-use Rattle.shard_calls.specs.Answers.{NeedsAlone}
+use Rattle.shard_calls.specs.Answers.{WritesAlone}
 use Rattle.shard_calls.specs.Alone.{GivesOver}
 use Rattle.shard_calls.specs.Transactions.{TransactionStatement, Transaction, ReadsAlone, NeedsNone, tables_of, used}
 
@@ -62,7 +62,7 @@ pub data GaveOnShard (o : Opening) (s : ShardRecord) (run : Run) (touched : List
       → Allowed q (all_applied changes (shard_rows o run s)) selected.rows
       → GaveOnShard o s run touched (steps ++ record { typed = typed.Select q; answer = Rows selected; on = Some s; seen = seen } ∷ []) writes changes
   wrote : {steps : List TransactionStatement} {writes : List Write} {changes : List RowChange} (w : Write) (more : List RowChange) (seen : Run)
-      → GaveOnShard o s run touched steps writes changes → NeedsAlone o w s → IsTypedWrite o.schema w
+      → GaveOnShard o s run touched steps writes changes → WritesAlone o w s → IsTypedWrite o.schema w
       → IsTrue (is_touched touched (written_table w)) → IsChangeOf o.schema w (all_applied changes (shard_rows o run s)) more
       → GaveOnShard o s run touched (steps ++ record { typed = typed.Write w; answer = Count (length more); on = Some s; seen = seen } ∷ [])
       (writes ++ w ∷ []) (changes ++ more)

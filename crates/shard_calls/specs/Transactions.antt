@@ -37,7 +37,7 @@ use Rattle.shard_calls.specs.declared.reply.ShardRead.{ShardRead}
 use Rattle.shard_calls.specs.declared.reply.Reply.{Reply}
 use Rattle.shard.specs.Seats.{seat_of}
 use Rattle.shard_calls.specs.Answers.{counted, needed, needed_by, NeedsAlone, HasGone, HasServed, IsFoundPartition, Gives, MayReadRefuse, MayWriteRefuse}
-use Rattle.shard_calls.specs.Alone.{GivesOver}
+use Rattle.shard_calls.specs.Alone.{GiveInTurn}
 
 -- ---- what a transaction is
 
@@ -67,11 +67,8 @@ pub record PassAndTx : Type 0 where
 
 -- ---- one database
 
--- The statements gave their answers, one after the other, from the one database to the other.
-pub data GiveOver (schema : VSchema) (db : Database) : List TransactionStatement → Database → Type 0 where
-  none : GiveOver schema db [] db
-  next : {steps : List TransactionStatement} {mid after : Database} (step : TransactionStatement) → GiveOver schema db steps mid → GivesOver schema mid step.typed step.answer after
-      → GiveOver schema db (steps ++ step ∷ []) after
+abbrev pub GiveOver : VSchema → Database → List TransactionStatement → Database → Type 0
+GiveOver = GiveInTurn (λ (step : TransactionStatement). step.typed) (λ (step : TransactionStatement). step.answer)
 
 -- The statements gave what they mean over the one database as the run leaves it, each with those before it done.
 abbrev pub AreOver : Opening → Run → List TransactionStatement → Type 0
@@ -83,12 +80,8 @@ AreOver o run steps = (after : Database) × GiveOver o.schema (database o run) s
 abbrev pub needed_for : Opening → Query → List Seat → List Seat
 needed_for o q seats = needed (table_at o.schema q.table) (route_of (table_at o.schema q.table) q.join q.filter) seats
 
--- by some partition the query needs this shard alone
-pub record ReadsAlone (o : Opening) (q : Query) (s : ShardRecord) : Type 0 where
-  pub seats : List Seat
-  pub partition : IsPartition seats
-  pub keyspace : s.place.keyspace ≡ (table_at o.schema q.table).keyspace
-  pub only : needed_for o q seats ≡ seat_of s ∷ []
+abbrev pub ReadsAlone : Opening → Query → ShardRecord → Type 0
+ReadsAlone o q s = NeedsAlone (table_at o.schema q.table) (route_of (table_at o.schema q.table) q.join q.filter) s
 
 -- the keyspace of a query or a write
 abbrev pub statement_keyspace : Opening → Typed → Option ℕ
