@@ -1,3 +1,4 @@
 pub mod Alone
 pub mod Among
+pub mod Served
 pub mod inner

@@ -4,15 +4,14 @@ ghost use Rattle.std.specs.Io.{ReadsAtMost};
 ghost use Rattle.std.specs.Io.KnownBytes.{Appends, Consumes, IsAtEnd, Keeps, ReadConsumes};
 ghost use Rattle.shard_run.specs.Runs.{Opening};
 ghost use Rattle.shard_law.specs.declared.limits.Limits.{Limits};
-ghost use Rattle.shard_calls.specs.Alone.{NoOthers};
 ghost use Rattle.shard_calls.specs.Pendings.{IsOf};
-ghost use Rattle.session.specs.Alone.{Alone, MeansAlone, alone_context, alone_first};
+ghost use Rattle.session.specs.Served.{HasTalkedWhole, HasTalkedAlone, HasStoppedReading, HasStoppedForMemory, HasStoppedWriting};
 ghost use Rattle.conversation.specs.Devices.{read_failures_after, write_failures_after};
-ghost use Rattle.conversation.specs.Faults.{IsUnfinished, HasBrokenOff};
+ghost use Rattle.conversation.specs.Faults.{HasBrokenOff};
 ghost use Rattle.conversation.specs.Means.{IsKept, Means, PassAndTransaction, none_open, context_of};
 ghost use Rattle.conversation.specs.Sessions.{HasTalked, HasTalkedOn, IsStateAfter};
 ghost use Rattle.conversation.specs.ConnectionStates.{end_of};
-ghost use Rattle.conversation.specs.Talk.{Talk, IsByInput};
+ghost use Rattle.conversation.specs.Talk.{IsByInput};
 
 use crate::session_core::{COMMAND_LIMIT, Core, begins_with};
 use conversation::{Access, ConnectionState, End, SessionFault, Sink, Source, is_new};
@@ -52,6 +51,7 @@ fn read_piece<R: Source>(source: &mut R, buffer: &mut [u8]) -> Result<usize, Ses
 
 /// Reads one piece of the input, and answers the payloads that it completes, or ends the session with the input. A session that is new
 /// greets its client before.
+/// The clauses tell what became of the pass and of both devices, which are lent one by one.
 fn serve_piece<W: World + Send + Sync, J: Naming + Send + Sync, G: Gate, R: Source, S: Sink>(
     rt: &(impl Threads + Wait + Sync),
     alloc: Global,
@@ -100,6 +100,7 @@ fn serve_piece<W: World + Send + Sync, J: Naming + Send + Sync, G: Gate, R: Sour
 }
 
 /// Serves the connection of a session that is new, until it ends.
+/// The clauses tell what became of the pass and of both devices, which are lent one by one.
 fn serve_on<W: World + Send + Sync, J: Naming + Send + Sync, G: Gate, R: Source, S: Sink>(
     rt: &(impl Threads + Wait + Sync),
     alloc: Global,
@@ -116,27 +117,12 @@ fn serve_on<W: World + Send + Sync, J: Naming + Send + Sync, G: Gate, R: Source,
     requires open_session { end_of core.old.connection_state ≡ None }
     requires none_open { core.old.tx ≡ None }
     requires begins { (o : Opening) (l : Limits) (s : PassAndTransaction) → HasTalked (context_of o core.old.handshake) (Means o l) ConnectionState.New core.old s [] [] s }
-    ensures talk { IfOk result (λ end. (read : List ℕ) × (written : List ℕ)
-        × Consumes (R.unread source.old) (R.unread source.new) read × Appends (S.taken sink.old) (S.taken sink.new) written
-        × ((now : PassAndTransaction) × (now.pass ≡ pass.new)
-        × Talk COMMAND_LIMIT (context_of W.opening core.old.handshake) (Means W.opening W.limits) ConnectionState.New (none_open pass.old) read written end now)) }
-    ensures alone { IfOk result (λ end. NoOthers pass.old pass.new → (read : List ℕ) × (written : List ℕ)
-        × Consumes (R.unread source.old) (R.unread source.new) read × Appends (S.taken sink.old) (S.taken sink.new) written
-        × ((now : Alone W.opening) × (now.kept.pass ≡ pass.new)
-        × Talk COMMAND_LIMIT (alone_context W.opening core.old.handshake) (MeansAlone W.opening W.limits) ConnectionState.New (alone_first W.opening pass.old) read written end now)) }
+    ensures talk { HasTalkedWhole W.opening W.limits core.old.handshake pass.old pass.new (R.unread source.old) (R.unread source.new) (S.taken sink.old) (S.taken sink.new) result }
+    ensures alone { HasTalkedAlone W.opening W.limits core.old.handshake pass.old pass.new (R.unread source.old) (R.unread source.new) (S.taken sink.old) (S.taken sink.new) result }
     ensures at_end { IfOk result (λ end. IsByInput end → IsAtEnd (R.unread source.new)) }
-    ensures read { result ≡ Err SessionFault.Read → (read : List ℕ) × (written : List ℕ)
-        × Consumes (R.unread source.old) (R.unread source.new) read × Appends (S.taken sink.old) (S.taken sink.new) written
-        × ((now : PassAndTransaction) × (now.pass ≡ pass.new)
-        × IsUnfinished COMMAND_LIMIT (context_of W.opening core.old.handshake) (Means W.opening W.limits) ConnectionState.New (none_open pass.old) read written now) }
-    ensures memory { result ≡ Err SessionFault.Memory → (read : List ℕ) × (piece : List ℕ) × (written : List ℕ)
-        × Consumes (R.unread source.old) (R.unread source.new) (read ++ piece) × Appends (S.taken sink.old) (S.taken sink.new) written
-        × ((now : PassAndTransaction) × (now.pass ≡ pass.new)
-        × IsUnfinished COMMAND_LIMIT (context_of W.opening core.old.handshake) (Means W.opening W.limits) ConnectionState.New (none_open pass.old) read written now) }
-    ensures write { result ≡ Err SessionFault.Write → (read : List ℕ) × (written : List ℕ)
-        × Consumes (R.unread source.old) (R.unread source.new) read × Appends (S.taken sink.old) (S.taken sink.new) written
-        × ((now : PassAndTransaction) × (now.pass ≡ pass.new)
-        × HasBrokenOff COMMAND_LIMIT (context_of W.opening core.old.handshake) (Means W.opening W.limits) ConnectionState.New (none_open pass.old) read written now) }
+    ensures read { HasStoppedReading W.opening W.limits core.old.handshake pass.old pass.new (R.unread source.old) (R.unread source.new) (S.taken sink.old) (S.taken sink.new) result }
+    ensures memory { HasStoppedForMemory W.opening W.limits core.old.handshake pass.old pass.new (R.unread source.old) (R.unread source.new) (S.taken sink.old) (S.taken sink.new) result }
+    ensures write { HasStoppedWriting W.opening W.limits core.old.handshake pass.old pass.new (R.unread source.old) (R.unread source.new) (S.taken sink.old) (S.taken sink.new) result }
     ensures source_count { R.failures source.new ≡ read_failures_after result (R.failures source.old) }
     ensures sink_count { S.failures sink.new ≡ write_failures_after result (S.failures sink.old) }
     ensures session { pass.new.session ≡ pass.old.session }
@@ -150,52 +136,6 @@ fn serve_on<W: World + Send + Sync, J: Naming + Send + Sync, G: Gate, R: Source,
         }
     }
     unreachable!()
-}
-
-/// Serves the connection, and drops the session.
-fn serve_whole<W: World + Send + Sync, J: Naming + Send + Sync, G: Gate, R: Source, S: Sink>(
-    rt: &(impl Threads + Wait + Sync),
-    alloc: Global,
-    engine: &Engine<W, J, G>,
-    pass: &mut ShardPass<W, J>,
-    core: Core<W, J>,
-    buffer: &mut [u8],
-    source: &mut R,
-    sink: &mut S,
-) -> Result<End, SessionFault>
-    requires session { IsSome pass.old.session }
-    requires room { 0 < length buffer.old }
-    requires limit { core.framing.limit ≡ COMMAND_LIMIT }
-    requires open_session { end_of core.connection_state ≡ None }
-    requires none_open { core.tx ≡ None }
-    requires begins { (o : Opening) (l : Limits) (s : PassAndTransaction) → HasTalked (context_of o core.handshake) (Means o l) ConnectionState.New core s [] [] s }
-    ensures talk { IfOk result (λ end. (read : List ℕ) × (written : List ℕ)
-        × Consumes (R.unread source.old) (R.unread source.new) read × Appends (S.taken sink.old) (S.taken sink.new) written
-        × ((now : PassAndTransaction) × (now.pass ≡ pass.new)
-        × Talk COMMAND_LIMIT (context_of W.opening core.handshake) (Means W.opening W.limits) ConnectionState.New (none_open pass.old) read written end now)) }
-    ensures alone { IfOk result (λ end. NoOthers pass.old pass.new → (read : List ℕ) × (written : List ℕ)
-        × Consumes (R.unread source.old) (R.unread source.new) read × Appends (S.taken sink.old) (S.taken sink.new) written
-        × ((now : Alone W.opening) × (now.kept.pass ≡ pass.new)
-        × Talk COMMAND_LIMIT (alone_context W.opening core.handshake) (MeansAlone W.opening W.limits) ConnectionState.New (alone_first W.opening pass.old) read written end now)) }
-    ensures at_end { IfOk result (λ end. IsByInput end → IsAtEnd (R.unread source.new)) }
-    ensures read { result ≡ Err SessionFault.Read → (read : List ℕ) × (written : List ℕ)
-        × Consumes (R.unread source.old) (R.unread source.new) read × Appends (S.taken sink.old) (S.taken sink.new) written
-        × ((now : PassAndTransaction) × (now.pass ≡ pass.new)
-        × IsUnfinished COMMAND_LIMIT (context_of W.opening core.handshake) (Means W.opening W.limits) ConnectionState.New (none_open pass.old) read written now) }
-    ensures memory { result ≡ Err SessionFault.Memory → (read : List ℕ) × (piece : List ℕ) × (written : List ℕ)
-        × Consumes (R.unread source.old) (R.unread source.new) (read ++ piece) × Appends (S.taken sink.old) (S.taken sink.new) written
-        × ((now : PassAndTransaction) × (now.pass ≡ pass.new)
-        × IsUnfinished COMMAND_LIMIT (context_of W.opening core.handshake) (Means W.opening W.limits) ConnectionState.New (none_open pass.old) read written now) }
-    ensures write { result ≡ Err SessionFault.Write → (read : List ℕ) × (written : List ℕ)
-        × Consumes (R.unread source.old) (R.unread source.new) read × Appends (S.taken sink.old) (S.taken sink.new) written
-        × ((now : PassAndTransaction) × (now.pass ≡ pass.new)
-        × HasBrokenOff COMMAND_LIMIT (context_of W.opening core.handshake) (Means W.opening W.limits) ConnectionState.New (none_open pass.old) read written now) }
-    ensures source_count { R.failures source.new ≡ read_failures_after result (R.failures source.old) }
-    ensures sink_count { S.failures sink.new ≡ write_failures_after result (S.failures sink.old) }
-    ensures session { pass.new.session ≡ pass.old.session }
-{
-    let mut core = core;
-    serve_on(rt, alloc, engine, pass, &mut core, buffer, source, sink)
 }
 
 /// A session that is new. Refuses only if there is no memory.
@@ -231,6 +171,7 @@ fn begin<W: World, J: Naming>(
 // Clauses: alone
 /// Serves one connection, the one with this id, until it ends: greets its client by the salt, lets in whom `access` names, reads commands
 /// from the source, and writes their replies to the sink.
+/// The clauses tell what became of the pass and of both devices, which are lent one by one.
 pub fn serve<W: World + Send + Sync, J: Naming + Send + Sync, G: Gate, R: Source, S: Sink>(
     rt: &(impl Threads + Wait + Sync),
     alloc: Global,
@@ -243,35 +184,13 @@ pub fn serve<W: World + Send + Sync, J: Naming + Send + Sync, G: Gate, R: Source
     sink: &mut S,
 ) -> Result<End, SessionFault>
     requires session { IsSome pass.old.session }
-    // Exactly the conversation over the bytes that were read is written, if each query has an outcome that its text may have
-    // over what the run leaves at a look of the pass, each after the one before.
-    ensures talk { IfOk result (λ end. (read : List ℕ) × (written : List ℕ)
-        × Consumes (R.unread source.old) (R.unread source.new) read × Appends (S.taken sink.old) (S.taken sink.new) written
-        × ((now : PassAndTransaction) × (now.pass ≡ pass.new)
-        × Talk COMMAND_LIMIT (context_of W.opening (record { access = access.now; salt = salt.now; id = id })) (Means W.opening W.limits) ConnectionState.New (none_open pass.old) read written end now)) }
-    // If no other session came between, it is one over one database, which knows no shards: each outcome is one that its text has
-    // over the rows that the commands before it left.
-    ensures alone { IfOk result (λ end. NoOthers pass.old pass.new → (read : List ℕ) × (written : List ℕ)
-        × Consumes (R.unread source.old) (R.unread source.new) read × Appends (S.taken sink.old) (S.taken sink.new) written
-        × ((now : Alone W.opening) × (now.kept.pass ≡ pass.new)
-        × Talk COMMAND_LIMIT (alone_context W.opening (record { access = access.now; salt = salt.now; id = id })) (MeansAlone W.opening W.limits) ConnectionState.New (alone_first W.opening pass.old) read written end now)) }
+    ensures talk { HasTalkedWhole W.opening W.limits (record { access = access.now; salt = salt.now; id = id }) pass.old pass.new (R.unread source.old) (R.unread source.new) (S.taken sink.old) (S.taken sink.new) result }
+    ensures alone { HasTalkedAlone W.opening W.limits (record { access = access.now; salt = salt.now; id = id }) pass.old pass.new (R.unread source.old) (R.unread source.new) (S.taken sink.old) (S.taken sink.new) result }
     // It ends before the end of the input only by a command or a fault.
     ensures at_end { IfOk result (λ end. IsByInput end → IsAtEnd (R.unread source.new)) }
-    // If the source failed, each payload that was read whole is answered, and nothing else was written.
-    ensures read { result ≡ Err SessionFault.Read → (read : List ℕ) × (written : List ℕ)
-        × Consumes (R.unread source.old) (R.unread source.new) read × Appends (S.taken sink.old) (S.taken sink.new) written
-        × ((now : PassAndTransaction) × (now.pass ≡ pass.new)
-        × IsUnfinished COMMAND_LIMIT (context_of W.opening (record { access = access.now; salt = salt.now; id = id })) (Means W.opening W.limits) ConnectionState.New (none_open pass.old) read written now) }
-    // A piece that was read and for which there is no memory counts as not read.
-    ensures memory { result ≡ Err SessionFault.Memory → (read : List ℕ) × (piece : List ℕ) × (written : List ℕ)
-        × Consumes (R.unread source.old) (R.unread source.new) (read ++ piece) × Appends (S.taken sink.old) (S.taken sink.new) written
-        × ((now : PassAndTransaction) × (now.pass ≡ pass.new)
-        × IsUnfinished COMMAND_LIMIT (context_of W.opening (record { access = access.now; salt = salt.now; id = id })) (Means W.opening W.limits) ConnectionState.New (none_open pass.old) read written now) }
-    // If the sink failed, a front of the payloads is answered, each once, and the sink took a front of the replies.
-    ensures write { result ≡ Err SessionFault.Write → (read : List ℕ) × (written : List ℕ)
-        × Consumes (R.unread source.old) (R.unread source.new) read × Appends (S.taken sink.old) (S.taken sink.new) written
-        × ((now : PassAndTransaction) × (now.pass ≡ pass.new)
-        × HasBrokenOff COMMAND_LIMIT (context_of W.opening (record { access = access.now; salt = salt.now; id = id })) (Means W.opening W.limits) ConnectionState.New (none_open pass.old) read written now) }
+    ensures read { HasStoppedReading W.opening W.limits (record { access = access.now; salt = salt.now; id = id }) pass.old pass.new (R.unread source.old) (R.unread source.new) (S.taken sink.old) (S.taken sink.new) result }
+    ensures memory { HasStoppedForMemory W.opening W.limits (record { access = access.now; salt = salt.now; id = id }) pass.old pass.new (R.unread source.old) (R.unread source.new) (S.taken sink.old) (S.taken sink.new) result }
+    ensures write { HasStoppedWriting W.opening W.limits (record { access = access.now; salt = salt.now; id = id }) pass.old pass.new (R.unread source.old) (R.unread source.new) (S.taken sink.old) (S.taken sink.new) result }
     // That a device failed is returned exactly when it did, in this call.
     ensures source_count { R.failures source.new ≡ read_failures_after result (R.failures source.old) }
     ensures sink_count { S.failures sink.new ≡ write_failures_after result (S.failures sink.old) }
@@ -279,6 +198,15 @@ pub fn serve<W: World + Send + Sync, J: Naming + Send + Sync, G: Gate, R: Source
     ensures session { pass.new.session ≡ pass.old.session }
 {
     let mut buffer = piece_buffer(alloc)?;
-    let core = begin(alloc, access, salt, id)?;
-    serve_whole(rt, alloc, engine, pass, core, &mut buffer, source, sink)
+    let mut core = begin(alloc, access, salt, id)?;
+    serve_on(
+        rt,
+        alloc,
+        engine,
+        pass,
+        &mut core,
+        &mut buffer,
+        source,
+        sink,
+    )
 }

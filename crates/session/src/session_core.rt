@@ -25,11 +25,11 @@ use journal::Naming;
 use mysql_packet::Framer;
 use route_engine::{Engine, Gate, Tx};
 use shard::{ShardPass, World};
-use std::alloc::Global;
+use std::alloc::{AllocError, Global};
 use std::marker::Model;
 use std::sync::Wait;
 use std::thread::Threads;
-use vt_value::{Items, Refusal};
+use vt_value::Items;
 
 /// The most bytes of a command's payload.
 pub const COMMAND_LIMIT: usize = 1 << 20;
@@ -100,6 +100,7 @@ fn whole_command<'p>(
 
 /// The replies to a piece of the input as its framer cuts it, and the session's state after it. Few pieces come to it, and it has large values
 /// of its own.
+/// The clauses tell what became of the pass, the transaction and the bytes, which are lent one by one.
 #[inline(never)]
 fn feed_framed<W: World + Send + Sync, J: Naming + Send + Sync, G: Gate, S: Sink>(
     rt: &(impl Threads + Wait + Sync),
@@ -144,6 +145,7 @@ fn feed_framed<W: World + Send + Sync, J: Naming + Send + Sync, G: Gate, S: Sink
 }
 
 /// The replies to a piece of the input, and the session's state after it.
+/// The clauses tell what became of the pass, the transaction and the bytes, which are lent one by one.
 fn feed_parts<W: World + Send + Sync, J: Naming + Send + Sync, G: Gate, S: Sink>(
     rt: &(impl Threads + Wait + Sync),
     alloc: Global,
@@ -248,7 +250,7 @@ impl<W: World, J: Naming> Core<W, J> {
         access: &Access,
         salt: &[u8; 20],
         id: u32,
-    ) -> Result<Core<W, J>, Refusal>
+    ) -> Result<Core<W, J>, AllocError>
         // Nothing has been read or written.
         ensures begins { IfOk result (λ core. (o : Opening) (l : Limits) (s : PassAndTransaction)
             → HasTalked (context_of o core.handshake) (Means o l) ConnectionState.New core s [] [] s) }
@@ -256,7 +258,6 @@ impl<W: World, J: Naming> Core<W, J> {
         ensures connection_state { IfOk result (λ core. core.connection_state ≡ ConnectionState.New) }
         ensures limit { IfOk result (λ core. core.framing.limit ≡ COMMAND_LIMIT) }
         ensures none_open { IfOk result (λ core. core.tx ≡ None) }
-        ensures err { IfErr result (λ e. e ≡ Refusal.OutOfMemory) }
     {
         let reply = BytesMut::with_capacity(alloc, REPLY_ROOM)?;
         let user = Items::from_slice(alloc, access.user.as_slice())?;
@@ -279,7 +280,7 @@ impl<W: World, J: Naming> Core<W, J> {
 
     /// A session that begins in the command phase, without a handshake: of the connection with this id, and with the
     /// capabilities that both sides set. Makes room for the refusal of a command, and refuses only if it can't.
-    pub fn commands(alloc: Global, id: u32, capabilities: u32) -> Result<Core<W, J>, Refusal>
+    pub fn commands(alloc: Global, id: u32, capabilities: u32) -> Result<Core<W, J>, AllocError>
         // Nothing has been read or written.
         ensures begins { IfOk result (λ core. (o : Opening) (l : Limits) (s : PassAndTransaction)
             → HasTalked (context_of o core.handshake) (Means o l) (ConnectionState.At (Phase.Commands (settings_at_first capabilities None))) core s [] [] s) }
@@ -287,7 +288,6 @@ impl<W: World, J: Naming> Core<W, J> {
         ensures limit { IfOk result (λ core. core.framing.limit ≡ COMMAND_LIMIT) }
         ensures none_open { IfOk result (λ core. core.tx ≡ None) }
         ensures id { IfOk result (λ core. core.handshake.id ≡ id) }
-        ensures err { IfErr result (λ e. e ≡ Refusal.OutOfMemory) }
     {
         let reply = BytesMut::with_capacity(alloc, REPLY_ROOM)?;
         Ok(Core {
@@ -364,7 +364,7 @@ impl<W: World + Send + Sync, J: Naming + Send + Sync> Core<W, J> {
     // keyspace, and one that begins anew has no transaction and autocommit on, and keeps its keyspace; result sets end as the client's
     // capabilities ask; the reply to a write always has room
     // With: Core::{new, commands, connection_state, end_of_input}
-    // Clauses: begins, handshake, connection_state, limit, none_open, err, talk, tx, begun, ended, by_command, fault, cause, again, next, session,
+    // Clauses: begins, handshake, connection_state, limit, none_open, talk, tx, begun, ended, by_command, fault, cause, again, next, session,
     // whole, id
     // Headline.
     // Promise: After a fault: without memory for a piece, it counts as not fed, and pass and sink are as before it; if the sink failed,
@@ -375,6 +375,7 @@ impl<W: World + Send + Sync, J: Naming + Send + Sync> Core<W, J> {
     /// Takes the next piece of the input, and writes the replies to the payloads that it completes, each once it is known
     /// whole; the first piece, also an empty one, writes the greeting of a session that is new. `None` says that the session goes on. A session that has ended takes nothing and writes nothing, and tells
     /// again how it ended: after a fault as `End::Broken`.
+    /// The clauses tell what became of the pass, the transaction and the bytes, which are lent one by one.
     pub fn feed<G: Gate, S: Sink>(
         &mut self,
         rt: &(impl Threads + Wait + Sync),
