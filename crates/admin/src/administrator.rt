@@ -18,6 +18,7 @@ use std::alloc::Global;
 use std::marker::Model;
 use std::sync::Wait;
 use vschema::VSchema;
+use vt_value::Refusal;
 use vtgate_lines::{AdminLine, read_admin_line};
 
 fn refused(fault: ReshardFault) -> AdminReply
@@ -46,7 +47,7 @@ fn answer_over<W: World, J: Naming>(
 {
     let line = match read_admin_line(alloc, words) {
         Ok(line) => line,
-        Err(refusal) => return refused(ReshardFault::Refused(refusal)),
+        Err(_) => return refused(ReshardFault::Refused(Refusal::OutOfMemory)),
     };
     match line {
         AdminLine::Status => status(alloc, workflow, serving),
@@ -71,7 +72,7 @@ fn answer_without(alloc: Global, words: &[u8]) -> AdminReply
 {
     let line = match read_admin_line(alloc, words) {
         Ok(line) => line,
-        Err(refusal) => return refused(ReshardFault::Refused(refusal)),
+        Err(_) => return refused(ReshardFault::Refused(Refusal::OutOfMemory)),
     };
     match line {
         AdminLine::Status => empty_status(alloc),

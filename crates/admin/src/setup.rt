@@ -1,5 +1,5 @@
 //! Opens a router with empty tables together with the administrator of its sharded keyspace, over one journal.
-ghost use Rattle.std.specs.Prelude.{◌≡◌, ◌≤◌, ◌^◌, [], None, IsTrue, IfOk, IfErr, drop, length};
+ghost use Rattle.std.specs.Prelude.{◌≡◌, ◌≤◌, ◌^◌, [], None, IsTrue, IfOk, drop, length};
 ghost use Rattle.vschema.specs.WellFormed.{is_vschema};
 ghost use Rattle.journal.specs.Views.{fresh_seats, new_pass};
 ghost use Rattle.shard_run.specs.Openings.{IsOpening};
@@ -14,9 +14,8 @@ use reshard::{ReshardConfig, Workflow};
 use route_engine::{Engine, Gate};
 use router::empty_router;
 use shard::{Limits, ShardLaw, ShardPass, World};
-use std::alloc::Global;
+use std::alloc::{AllocError, Global};
 use vschema::VSchema;
-use vt_value::Refusal;
 
 // The administrator of the sharded keyspace over the free slots, without a workflow.
 fn idle_administrator<W: World, J: Naming>(
@@ -67,7 +66,7 @@ pub fn administered_router<W: World + Send + Sync, J: Naming + Send + Sync, G: G
         Opener<ShardLaw<W>, J>,
         ShardPass<W, J>,
     ),
-    Refusal,
+    AllocError,
 >
     requires name { opened ≡ J.table }
     requires opening { W.opening ≡ opening_of schema ranges.now }
@@ -80,7 +79,6 @@ pub fn administered_router<W: World + Send + Sync, J: Naming + Send + Sync, G: G
     ensures administrator { IfOk result (λ r. r.1 ≡ opening_workflow schema ranges.now) }
     ensures opener { IfOk result (λ r. r.2 ≡ 0) }
     ensures pass { IfOk result (λ r. r.3 ≡ new_pass [] None) }
-    ensures err { IfErr result (λ e. e ≡ Refusal.OutOfMemory) }
 {
     let (engine, opener, pass, free) = empty_router::<W, J, G>(
         alloc,

@@ -1,5 +1,5 @@
 //! The status: which ranges are served, and how far a workflow is.
-ghost use Rattle.std.specs.Prelude.{◌≡◌, ◌++◌, true, false, List, IfOk, IfErr, OnOk, IsPermutation, IsSorted, codes, map};
+ghost use Rattle.std.specs.Prelude.{◌≡◌, ◌++◌, true, false, List, IfOk, OnOk, IsPermutation, IsSorted, codes, map};
 ghost use Rattle.keyrange.specs.declared.KeyRange.{KeyRange};
 ghost use Rattle.keyrange.specs.Names.{range_text};
 ghost use Rattle.vtgate_lines.specs.Partitions.{range_cmp};
@@ -13,12 +13,11 @@ use keyrange::KeyRange;
 use reshard::{ReshardFault, Stage, Workflow};
 use serving::{Seated, Serving, ShardReference};
 use shard::{Shard, World};
-use std::alloc::Global;
+use std::alloc::{AllocError, Global};
 use vt_value::{Items, Refusal};
 
-fn put_range(alloc: Global, out: &mut Vec<u8>, range: &KeyRange) -> Result<(), Refusal>
+fn put_range(alloc: Global, out: &mut Vec<u8>, range: &KeyRange) -> Result<(), AllocError>
     ensures ok { OnOk result (out.new.items ≡ out.old.items ++ codes " " ++ range_text range.now) }
-    ensures err { IfErr result (λ e. e ≡ Refusal.OutOfMemory) }
 {
     let name = format!(in alloc; " {range}")?;
     out.extend_from_slice(name.as_bytes())?;
@@ -26,9 +25,8 @@ fn put_range(alloc: Global, out: &mut Vec<u8>, range: &KeyRange) -> Result<(), R
 }
 
 // The line that has the ranges and the stage.
-fn status_line(alloc: Global, serving: &[KeyRange], stage: Stage) -> Result<Vec<u8>, Refusal>
+fn status_line(alloc: Global, serving: &[KeyRange], stage: Stage) -> Result<Vec<u8>, AllocError>
     ensures ok { IfOk result (λ line. line.items ≡ status_text serving.now stage) }
-    ensures err { IfErr result (λ e. e ≡ Refusal.OutOfMemory) }
 {
     let mut out = Vec::from_slice(alloc, b"serving")?;
     for range in serving {
@@ -54,9 +52,8 @@ fn is_switching(stage: Stage) -> bool
 fn ranges_of<S: Seated + Drop>(
     alloc: Global,
     parts: &[ShardReference<S>],
-) -> Result<Vec<KeyRange>, Refusal>
+) -> Result<Vec<KeyRange>, AllocError>
     ensures ok { IfOk result (λ r. r.items ≡ map (λ seat. seat.1) parts.now) }
-    ensures err { IfErr result (λ e. e ≡ Refusal.OutOfMemory) }
 {
     let mut ranges = Vec::new(alloc);
     for part in parts {
@@ -70,10 +67,9 @@ fn served_ranges<W: World, J: Naming>(
     alloc: Global,
     workflow: &Workflow<W, J>,
     serving: &Serving<Shard<W, J>>,
-) -> Result<Vec<KeyRange>, Refusal>
+) -> Result<Vec<KeyRange>, AllocError>
     requires home { serving.now ≡ workflow.now.keyspace }
     ensures ok { IfOk result (λ r. AreStatusRanges workflow.now r.items) }
-    ensures err { IfErr result (λ e. e ≡ Refusal.OutOfMemory) }
 {
     if is_switching(workflow.stage()) {
         return workflow.served_ranges(alloc);
@@ -86,10 +82,9 @@ fn ordered_ranges<W: World, J: Naming>(
     alloc: Global,
     workflow: &Workflow<W, J>,
     serving: &Serving<Shard<W, J>>,
-) -> Result<Vec<KeyRange>, Refusal>
+) -> Result<Vec<KeyRange>, AllocError>
     requires home { serving.now ≡ workflow.now.keyspace }
     ensures ok { IfOk result (λ r. (told : List KeyRange) × AreStatusRanges workflow.now told × IsPermutation told r.items × IsSorted range_cmp r.items) }
-    ensures err { IfErr result (λ e. e ≡ Refusal.OutOfMemory) }
 {
     let mut ranges = served_ranges(alloc, workflow, serving)?;
     ranges.sort_unstable_by(|a, b| a.begin.as_slice().cmp(b.begin.as_slice()));
@@ -101,10 +96,9 @@ fn keyspace_line<W: World, J: Naming>(
     alloc: Global,
     workflow: &Workflow<W, J>,
     serving: &Serving<Shard<W, J>>,
-) -> Result<Items<u8>, Refusal>
+) -> Result<Items<u8>, AllocError>
     requires home { serving.now ≡ workflow.now.keyspace }
     ensures ok { IfOk result (IsStatus workflow.now) }
-    ensures err { IfErr result (λ e. e ≡ Refusal.OutOfMemory) }
 {
     let ranges = ordered_ranges(alloc, workflow, serving)?;
     let line = status_line(alloc, ranges.as_slice(), workflow.stage())?;
@@ -122,7 +116,7 @@ pub(crate) fn status<W: World, J: Naming>(
 {
     match keyspace_line(alloc, workflow, serving) {
         Ok(text) => AdminReply::Status(text),
-        Err(refusal) => AdminReply::Refused(ReshardFault::Refused(refusal)),
+        Err(_) => AdminReply::Refused(ReshardFault::Refused(Refusal::OutOfMemory)),
     }
 }
 
@@ -132,6 +126,6 @@ pub(crate) fn empty_status(alloc: Global) -> AdminReply
 {
     match status_line(alloc, &[], Stage::None) {
         Ok(line) => AdminReply::Status(Items::from_vec(line)),
-        Err(refusal) => AdminReply::Refused(ReshardFault::Refused(refusal)),
+        Err(_) => AdminReply::Refused(ReshardFault::Refused(Refusal::OutOfMemory)),
     }
 }

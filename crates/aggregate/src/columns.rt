@@ -1,5 +1,5 @@
 //! The parts of one aggregate column, as the shards answer them, and how they are joined into the column's value.
-ghost use Rattle.std.specs.Prelude.{◌≡◌, [], ◌∷◌, ◌+ℤ◌, map, FitsSigned, IfOk, IfErr, IfSome, OnOk};
+ghost use Rattle.std.specs.Prelude.{◌≡◌, [], ◌∷◌, ◌+ℤ◌, map, FitsSigned, IfOk, IfSome, OnOk};
 ghost use Rattle.std.specs.Int.{w128};
 ghost use Rattle.vt_value.specs.Values.{value_at};
 ghost use Rattle.aggregate.specs.Aggregates.{lesser, greater};
@@ -10,8 +10,8 @@ use crate::extremes::{Max, Min};
 use crate::joining::Aggregate;
 use crate::sums::{Sum, number};
 use sql_tree::Item;
-use std::alloc::Global;
-use vt_value::{Refusal, Value};
+use std::alloc::{AllocError, Global};
+use vt_value::Value;
 
 /// What is kept of a column of parts.
 #[derive(Drop)]
@@ -26,24 +26,21 @@ pub enum ColumnPart {
     Greatest(Option<Value>),
 }
 
-fn join_total(alloc: Global, part: &mut Option<i128>, value: &Value) -> Result<(), Refusal>
+fn join_total(alloc: Global, part: &mut Option<i128>, value: &Value) -> Result<(), AllocError>
     requires { IfSome (join_options ◌+ℤ◌ part.old (total_part (value.now ∷ []))) (λ n. FitsSigned w128 n) }
     ensures ok { OnOk result (part.new ≡ join_options ◌+ℤ◌ part.old (total_part (value.now ∷ []))) }
-    ensures err { IfErr result (λ e. e ≡ Refusal.OutOfMemory) }
 {
     Sum::join(alloc, part, &number(value))
 }
 
-fn join_least(alloc: Global, part: &mut Option<Value>, value: &Value) -> Result<(), Refusal>
+fn join_least(alloc: Global, part: &mut Option<Value>, value: &Value) -> Result<(), AllocError>
     ensures ok { OnOk result (part.new ≡ join_options lesser part.old (least_part (value.now ∷ []))) }
-    ensures err { IfErr result (λ e. e ≡ Refusal.OutOfMemory) }
 {
     Min::add(alloc, part, value)
 }
 
-fn join_greatest(alloc: Global, part: &mut Option<Value>, value: &Value) -> Result<(), Refusal>
+fn join_greatest(alloc: Global, part: &mut Option<Value>, value: &Value) -> Result<(), AllocError>
     ensures ok { OnOk result (part.new ≡ join_options greater part.old (greatest_part (value.now ∷ []))) }
-    ensures err { IfErr result (λ e. e ≡ Refusal.OutOfMemory) }
 {
     Max::add(alloc, part, value)
 }
@@ -63,10 +60,9 @@ impl ColumnPart {
     }
 
     /// Joins the part that is in a row. Refuses only for want of memory.
-    pub fn add(&mut self, alloc: Global, value: &Value) -> Result<(), Refusal>
+    pub fn add(&mut self, alloc: Global, value: &Value) -> Result<(), AllocError>
         requires { CanHold (with_value self.old value.now) }
         ensures ok { OnOk result (self.new ≡ with_value self.old value.now) }
-        ensures err { IfErr result (λ e. e ≡ Refusal.OutOfMemory) }
     {
         match self {
             ColumnPart::Nothing => Ok(()),
@@ -78,10 +74,9 @@ impl ColumnPart {
     }
 
     /// Joins the part at an ordinal of these values, NULL after the last.
-    fn add_at(&mut self, alloc: Global, values: &[Value], ordinal: usize) -> Result<(), Refusal>
+    fn add_at(&mut self, alloc: Global, values: &[Value], ordinal: usize) -> Result<(), AllocError>
         requires { CanHold (with_value self.old (value_at values.now ordinal)) }
         ensures ok { OnOk result (self.new ≡ with_value self.old (value_at values.now ordinal)) }
-        ensures err { IfErr result (λ e. e ≡ Refusal.OutOfMemory) }
     {
         match values.get(ordinal) {
             Some(value) => self.add(alloc, value),
@@ -104,9 +99,8 @@ impl ColumnPart {
 }
 
 /// What is kept of each aggregate's parts, of none.
-pub fn empty_parts(alloc: Global, aggregates: &[Item<usize>]) -> Result<Vec<ColumnPart>, Refusal>
+pub fn empty_parts(alloc: Global, aggregates: &[Item<usize>]) -> Result<Vec<ColumnPart>, AllocError>
     ensures ok { IfOk result (λ parts. parts.items ≡ map (λ a. column_part a []) aggregates.now) }
-    ensures err { IfErr result (λ e. e ≡ Refusal.OutOfMemory) }
 {
     let mut parts = Vec::with_capacity(alloc, aggregates.len())?;
     for aggregate in aggregates {
@@ -120,10 +114,9 @@ pub fn add_values(
     alloc: Global,
     parts: &mut Vec<ColumnPart>,
     values: &[Value],
-) -> Result<(), Refusal>
+) -> Result<(), AllocError>
     requires { CanHoldAll (with_values parts.old.items values.now) }
     ensures ok { OnOk result (parts.new.items ≡ with_values parts.old.items values.now) }
-    ensures err { IfErr result (λ e. e ≡ Refusal.OutOfMemory) }
 {
     for i in 0..parts.len() {
         parts[i].add_at(alloc, values, i)?;

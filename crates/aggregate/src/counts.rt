@@ -2,8 +2,8 @@
 ghost use Rattle.vt_value.specs.declared.value.Value.{Value};
 
 use crate::joining::Aggregate;
-use std::alloc::Global;
-use vt_value::{Refusal, Value};
+use std::alloc::{AllocError, Global};
+use vt_value::Value;
 
 /// COUNT of a column: how many values are not NULL.
 #[derive(Clone, Copy, Debug)]
@@ -32,14 +32,14 @@ impl Aggregate for Count {
         0
     }
 
-    fn add(_alloc: Global, part: &mut u64, value: &Value) -> Result<(), Refusal> {
+    fn add(_alloc: Global, part: &mut u64, value: &Value) -> Result<(), AllocError> {
         if !matches!(value, Value::Null) {
             *part += 1;
         }
         Ok(())
     }
 
-    fn join(_alloc: Global, part: &mut u64, other: &u64) -> Result<(), Refusal> {
+    fn join(_alloc: Global, part: &mut u64, other: &u64) -> Result<(), AllocError> {
         *part += *other;
         Ok(())
     }
@@ -80,12 +80,12 @@ impl Aggregate for CountStar {
         0
     }
 
-    fn add(_alloc: Global, part: &mut u64, _value: &Value) -> Result<(), Refusal> {
+    fn add(_alloc: Global, part: &mut u64, _value: &Value) -> Result<(), AllocError> {
         *part += 1;
         Ok(())
     }
 
-    fn join(_alloc: Global, part: &mut u64, other: &u64) -> Result<(), Refusal> {
+    fn join(_alloc: Global, part: &mut u64, other: &u64) -> Result<(), AllocError> {
         *part += *other;
         Ok(())
     }

@@ -1,12 +1,12 @@
 //! MIN and MAX. Both skip NULL; the part of a bag is its least or greatest value, or none.
-ghost use Rattle.std.specs.Prelude.{◌≡◌, Some, OnOk, OnErr, IfErr};
+ghost use Rattle.std.specs.Prelude.{◌≡◌, Some, OnOk, OnErr};
 ghost use Rattle.aggregate.specs.Aggregates.{lesser, greater};
 ghost use Rattle.aggregate.specs.Parts.{join_options};
 ghost use Rattle.vt_value.specs.declared.value.Value.{Value};
 
 use crate::joining::Aggregate;
-use std::alloc::Global;
-use vt_value::{Refusal, Value, copy, sort_order};
+use std::alloc::{AllocError, Global};
+use vt_value::{Value, copy, sort_order};
 
 /// MIN: the least of the values that are not NULL, NULL of none.
 #[derive(Clone, Copy, Debug)]
@@ -16,10 +16,9 @@ pub struct Min;
 #[derive(Clone, Copy, Debug)]
 pub struct Max;
 
-fn keep_lesser(alloc: Global, kept: &mut Option<Value>, value: &Value) -> Result<(), Refusal>
+fn keep_lesser(alloc: Global, kept: &mut Option<Value>, value: &Value) -> Result<(), AllocError>
     ensures ok { OnOk result (kept.new ≡ join_options lesser kept.old (Some value.now)) }
     ensures kept { OnErr result (kept.new ≡ kept.old) }
-    ensures err { IfErr result (λ e. e ≡ Refusal.OutOfMemory) }
 {
     let replaces = match kept {
         Some(least) => sort_order(value, least).is_lt(),
@@ -31,10 +30,9 @@ fn keep_lesser(alloc: Global, kept: &mut Option<Value>, value: &Value) -> Result
     Ok(())
 }
 
-fn keep_greater(alloc: Global, kept: &mut Option<Value>, value: &Value) -> Result<(), Refusal>
+fn keep_greater(alloc: Global, kept: &mut Option<Value>, value: &Value) -> Result<(), AllocError>
     ensures ok { OnOk result (kept.new ≡ join_options greater kept.old (Some value.now)) }
     ensures kept { OnErr result (kept.new ≡ kept.old) }
-    ensures err { IfErr result (λ e. e ≡ Refusal.OutOfMemory) }
 {
     let replaces = match kept {
         Some(greatest) => sort_order(greatest, value).is_lt(),
@@ -69,14 +67,18 @@ impl Aggregate for Min {
         None
     }
 
-    fn add(alloc: Global, part: &mut Option<Value>, value: &Value) -> Result<(), Refusal> {
+    fn add(alloc: Global, part: &mut Option<Value>, value: &Value) -> Result<(), AllocError> {
         if matches!(value, Value::Null) {
             return Ok(());
         }
         keep_lesser(alloc, part, value)
     }
 
-    fn join(alloc: Global, part: &mut Option<Value>, other: &Option<Value>) -> Result<(), Refusal> {
+    fn join(
+        alloc: Global,
+        part: &mut Option<Value>,
+        other: &Option<Value>,
+    ) -> Result<(), AllocError> {
         match other {
             Some(value) => keep_lesser(alloc, part, value),
             None => Ok(()),
@@ -115,14 +117,18 @@ impl Aggregate for Max {
         None
     }
 
-    fn add(alloc: Global, part: &mut Option<Value>, value: &Value) -> Result<(), Refusal> {
+    fn add(alloc: Global, part: &mut Option<Value>, value: &Value) -> Result<(), AllocError> {
         if matches!(value, Value::Null) {
             return Ok(());
         }
         keep_greater(alloc, part, value)
     }
 
-    fn join(alloc: Global, part: &mut Option<Value>, other: &Option<Value>) -> Result<(), Refusal> {
+    fn join(
+        alloc: Global,
+        part: &mut Option<Value>,
+        other: &Option<Value>,
+    ) -> Result<(), AllocError> {
         match other {
             Some(value) => keep_greater(alloc, part, value),
             None => Ok(()),

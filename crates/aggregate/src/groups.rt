@@ -1,5 +1,5 @@
 //! Joins the groups that several shards answer. Groups are found by a hash of their values, and each keeps the parts of its aggregates.
-ghost use Rattle.std.specs.Prelude.{◌≡◌, ◌++◌, List, [], ◌∷◌, Some, Bool, ◌<◌, map, take, drop, length, slice_get, slice_index_or, slice_set, IfOk, IfErr, OnOk, if◌then◌else◌};
+ghost use Rattle.std.specs.Prelude.{◌≡◌, ◌++◌, List, [], ◌∷◌, Some, Bool, ◌<◌, map, take, drop, length, slice_get, slice_index_or, slice_set, IfOk, OnOk, if◌then◌else◌};
 ghost use Rattle.std.specs.List.{IsDistinct, zip};
 ghost use Rattle.indexmap.specs.IndexSet.{insert_key};
 ghost use Rattle.vt_value.specs.Values.{Row as Line, same_row};
@@ -13,9 +13,9 @@ use crate::keys::{BeginsAs, GroupKey};
 use indexmap::IndexSet;
 use operators::{Operator, Rows};
 use sql_tree::Item;
-use std::alloc::Global;
+use std::alloc::{AllocError, Global};
 use std::hash::DefaultHasher;
-use vt_value::{Items, Refusal, Row, Value};
+use vt_value::{Items, Row, Value};
 
 /// The groups of the rows so far.
 #[derive(Drop)]
@@ -26,10 +26,9 @@ pub struct Groups {
 }
 
 /// Moves the values after a row's group values, which stay.
-fn move_parts(row: &mut Row, width: usize, parts: &mut Vec<Value>) -> Result<(), Refusal>
+fn move_parts(row: &mut Row, width: usize, parts: &mut Vec<Value>) -> Result<(), AllocError>
     ensures values { OnOk result (row.new ≡ take width row.old) }
     ensures parts { OnOk result (parts.new.items ≡ drop width row.old) }
-    ensures err { IfErr result (λ e. e ≡ Refusal.OutOfMemory) }
 {
     parts.clear();
     while row.len() > width {
@@ -48,9 +47,8 @@ impl Groups {
         hasher: DefaultHasher,
         aggregates: &[Item<usize>],
         width: usize,
-    ) -> Result<Groups, Refusal>
+    ) -> Result<Groups, AllocError>
         ensures ok { IfOk result (IsGrouped aggregates.now width []) }
-        ensures err { IfErr result (λ e. e ≡ Refusal.OutOfMemory) }
     {
         let mut groups = Groups {
             keys: IndexSet::with_hasher(alloc, BeginsAs { hasher }),
@@ -68,13 +66,12 @@ impl Groups {
         alloc: Global,
         aggregates: &[Item<usize>],
         values: Row,
-    ) -> Result<usize, Refusal>
+    ) -> Result<usize, AllocError>
         ensures keys { OnOk result (key_values self.new ≡ insert_key same_row (key_values self.old) values) }
         ensures parts { OnOk result (part_lists self.new ≡ (if has_row values (key_values self.old) then part_lists self.old
             else part_lists self.old ++ map (λ a. column_part a []) aggregates.now ∷ [])) }
         ensures ordinal { IfOk result (λ ordinal. slice_get (key_values self.new) ordinal ≡ Some values) }
         ensures distinct { OnOk result (IsDistinct same_row (key_values self.new)) }
-        ensures err { IfErr result (λ e. e ≡ Refusal.OutOfMemory) }
     {
         let (ordinal, added) = self.keys.insert_full(GroupKey { values })?;
         if added {
@@ -84,13 +81,12 @@ impl Groups {
     }
 
     /// Joins values to the parts of the group at an ordinal.
-    fn add_at(&mut self, alloc: Global, ordinal: usize, values: &[Value]) -> Result<(), Refusal>
+    fn add_at(&mut self, alloc: Global, ordinal: usize, values: &[Value]) -> Result<(), AllocError>
         requires within { ordinal < length (part_lists self.old) }
         requires holds { CanHoldAll (with_values (slice_index_or (part_lists self.old) ordinal []) values.now) }
         ensures keys { OnOk result (key_values self.new ≡ key_values self.old) }
         ensures parts { OnOk result (part_lists self.new
             ≡ slice_set (part_lists self.old) ordinal (with_values (slice_index_or (part_lists self.old) ordinal []) values.now)) }
-        ensures err { IfErr result (λ e. e ≡ Refusal.OutOfMemory) }
     {
         add_values(alloc, &mut self.parts[ordinal], values)?;
         Ok(())
@@ -104,11 +100,10 @@ impl Groups {
         width: usize,
         row: Row,
         parts: &mut Vec<Value>,
-    ) -> Result<(), Refusal>
+    ) -> Result<(), AllocError>
         requires { (rows : List Line) × IsGrouped aggregates.now width rows self.old × AreSummable width (rows ++ row ∷ []) }
         ensures ok { OnOk result ((rows : List Line) → IsGrouped aggregates.now width rows self.old
             → IsGrouped aggregates.now width (rows ++ row ∷ []) self.new) }
-        ensures err { IfErr result (λ e. e ≡ Refusal.OutOfMemory) }
     {
         let mut values = row;
         move_parts(&mut values, width, parts)?;
@@ -118,10 +113,9 @@ impl Groups {
     }
 
     /// One row for each group.
-    fn into_rows(self, alloc: Global) -> Result<Vec<Row>, Refusal>
+    fn into_rows(self, alloc: Global) -> Result<Vec<Row>, AllocError>
         requires { length (key_values self) ≡ length (part_lists self) }
         ensures ok { IfOk result (λ rows. rows.items ≡ map group_row (zip (key_values self) (part_lists self))) }
-        ensures err { IfErr result (λ e. e ≡ Refusal.OutOfMemory) }
     {
         let Groups {
             mut keys,
@@ -140,9 +134,8 @@ impl Groups {
 }
 
 /// A group's values, and then what its parts give.
-fn finish(values: Row, parts: Vec<ColumnPart>) -> Result<Row, Refusal>
+fn finish(values: Row, parts: Vec<ColumnPart>) -> Result<Row, AllocError>
     ensures ok { IfOk result (λ row. row ≡ values ++ map finished parts.items) }
-    ensures err { IfErr result (λ e. e ≡ Refusal.OutOfMemory) }
 {
     let mut row = values;
     for part in parts {
@@ -172,10 +165,9 @@ impl GroupMerge {
         input: O,
         aggregates: &[Item<usize>],
         width: usize,
-    ) -> Result<GroupMerge, Refusal>
+    ) -> Result<GroupMerge, AllocError>
         requires { AreSummable width (O.to_come input) }
         ensures ok { IfOk result (λ merge. ⟦<GroupMerge as Operator>⟧.to_come merge ≡ joined_rows aggregates.now width (O.to_come input)) }
-        ensures err { IfErr result (λ e. e ≡ Refusal.OutOfMemory) }
     {
         let mut input = input;
         let mut groups = Groups::new(alloc, hasher, aggregates, width)?;
@@ -194,7 +186,7 @@ impl Operator for GroupMerge {
 
     ghost has_failed = { λ merge. ⟦<Rows as Operator>⟧.has_failed merge.rows };
 
-    fn next(&mut self, alloc: Global) -> Result<Option<Row>, Refusal> {
+    fn next(&mut self, alloc: Global) -> Result<Option<Row>, AllocError> {
         self.rows.next(alloc)
     }
 }

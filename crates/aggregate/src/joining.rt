@@ -1,11 +1,11 @@
 //! What every aggregate provides, so that each shard can aggregate its own rows and the router joins the parts.
-ghost use Rattle.std.specs.Prelude.{◌≡◌, List, [], ◌∷◌, OnOk, OnErr, IfOk, IfErr};
+ghost use Rattle.std.specs.Prelude.{◌≡◌, List, [], ◌∷◌, OnOk, OnErr, IfOk};
 ghost use Rattle.vt_value.specs.declared.value.Value.{Value};
 ghost use Rattle.aggregate.specs.Aggregates.{IsHeld};
 ghost use Rattle.aggregate.specs.Laws.{PartLaws};
 
-use std::alloc::Global;
-use vt_value::{Refusal, Value};
+use std::alloc::{AllocError, Global};
+use vt_value::Value;
 
 /// An aggregate over a bag of values, which may be cut into bags: each has a part, and parts are joined.
 pub trait Aggregate {
@@ -36,18 +36,16 @@ pub trait Aggregate {
         ensures { result ≡ part_of [] };
 
     /// Adds a value to the bag. Refuses only for want of memory, and leaves the part then.
-    fn add(alloc: Global, part: &mut Self::Part, value: &Value) -> Result<(), Refusal>
+    fn add(alloc: Global, part: &mut Self::Part, value: &Value) -> Result<(), AllocError>
         requires { can_hold (joined part.old (part_of (value.now ∷ []))) }
         ensures ok { OnOk result (part.new ≡ joined part.old (part_of (value.now ∷ []))) }
-        ensures kept { OnErr result (part.new ≡ part.old) }
-        ensures err { IfErr result (λ e. e ≡ Refusal.OutOfMemory) };
+        ensures kept { OnErr result (part.new ≡ part.old) };
 
     /// Adds the values of another bag. Refuses only for want of memory, and leaves the part then.
-    fn join(alloc: Global, part: &mut Self::Part, other: &Self::Part) -> Result<(), Refusal>
+    fn join(alloc: Global, part: &mut Self::Part, other: &Self::Part) -> Result<(), AllocError>
         requires { can_hold (joined part.old other.now) }
         ensures ok { OnOk result (part.new ≡ joined part.old other.now) }
-        ensures kept { OnErr result (part.new ≡ part.old) }
-        ensures err { IfErr result (λ e. e ≡ Refusal.OutOfMemory) };
+        ensures kept { OnErr result (part.new ≡ part.old) };
 
     /// What the aggregate gives over the bag.
     fn finish(part: Self::Part) -> Value
@@ -61,10 +59,9 @@ pub trait Aggregate {
 }
 
 /// What an aggregate gives over a bag of values. Refuses only for want of memory.
-pub fn evaluate<A: Aggregate>(alloc: Global, values: &[Value]) -> Result<Value, Refusal>
+pub fn evaluate<A: Aggregate>(alloc: Global, values: &[Value]) -> Result<Value, AllocError>
     requires { IsHeld values.now }
     ensures ok { IfOk result (λ value. value ≡ A.meaning values.now) }
-    ensures err { IfErr result (λ e. e ≡ Refusal.OutOfMemory) }
 {
     let mut part = A::empty();
     for value in values {

@@ -5,8 +5,8 @@ ghost use Rattle.aggregate.specs.Parts.{join_options, present_number};
 ghost use Rattle.vt_value.specs.declared.value.Value.{Value};
 
 use crate::joining::Aggregate;
-use std::alloc::Global;
-use vt_value::{Refusal, Value};
+use std::alloc::{AllocError, Global};
+use vt_value::Value;
 
 /// SUM: the exact sum of the values that are not NULL, NULL of none. A text counts as 0.
 #[derive(Clone, Copy, Debug)]
@@ -57,12 +57,16 @@ impl Aggregate for Sum {
         None
     }
 
-    fn add(_alloc: Global, part: &mut Option<i128>, value: &Value) -> Result<(), Refusal> {
+    fn add(_alloc: Global, part: &mut Option<i128>, value: &Value) -> Result<(), AllocError> {
         *part = plus(*part, number(value));
         Ok(())
     }
 
-    fn join(_alloc: Global, part: &mut Option<i128>, other: &Option<i128>) -> Result<(), Refusal> {
+    fn join(
+        _alloc: Global,
+        part: &mut Option<i128>,
+        other: &Option<i128>,
+    ) -> Result<(), AllocError> {
         *part = plus(*part, *other);
         Ok(())
     }

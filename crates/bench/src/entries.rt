@@ -134,7 +134,7 @@ fn run_opened<J: Naming + Send + Sync, R: Threads + Wait + Sync>(
     requires { opened ≡ J.table }
 {
     match opened.named::<J>(alloc) {
-        Err(refusal) => Err(refusal),
+        Err(_) => Err(Refusal::OutOfMemory),
         Ok((mut seats, _opener, mut first)) => {
             match open_shards(alloc, &mut seats, &mut first, line) {
                 Err(refusal) => Err(refusal),

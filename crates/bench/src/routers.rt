@@ -85,7 +85,7 @@ fn run_opened<
 {
     let limits = widest_limits();
     match empty_router::<W, J, Open>(alloc, schema, ranges, limits, opened, 0, Open) {
-        Err(refusal) => Err(Unanswered::Refused(refusal)),
+        Err(_) => Err(Unanswered::Refused(Refusal::OutOfMemory)),
         Ok((engine, opener, first, free)) => {
             drop(free);
             let mut router = Router {

@@ -40,10 +40,8 @@ fn plan_query(
     query: Query,
 ) -> Result<u64, Refusal> {
     let ordinal = query.table;
-    match plan(alloc, schema, query) {
-        Ok(plan) => needed(alloc, schema, ranges, ordinal, &plan),
-        Err(refusal) => Err(refusal),
-    }
+    let plan = plan(alloc, schema, query)?;
+    needed(alloc, schema, ranges, ordinal, &plan)
 }
 
 // A text as a statement with its names resolved.

@@ -148,6 +148,7 @@ fn column_row(
 }
 
 /// Adds the row of a column, if its name fits.
+/// Of the statement and of the table it is handed what the row shows.
 fn push_column(
     alloc: Global,
     full: bool,

@@ -76,6 +76,7 @@ fn write_reply<S: Sink>(
 }
 
 /// Writes what is written for one payload, once it is known whole, and returns the session's state after it.
+/// The clauses tell what became of the pass, the transaction and the reply, which are lent one by one.
 fn answer<W: World + Send + Sync, J: Naming + Send + Sync, G: Gate, S: Sink>(
     rt: &(impl Threads + Wait + Sync),
     alloc: Global,
@@ -114,6 +115,7 @@ fn answer<W: World + Send + Sync, J: Naming + Send + Sync, G: Gate, S: Sink>(
 
 /// Writes what is written for a piece that is the one packet of a command, whose bytes are given, and returns the session's state after it.
 /// It is what `answer_fed` does of such a piece, without a copy of the bytes.
+/// The clauses tell what became of the pass, the transaction and the reply, which are lent one by one.
 pub fn answer_command<W: World + Send + Sync, J: Naming + Send + Sync, G: Gate, S: Sink>(
     rt: &(impl Threads + Wait + Sync),
     alloc: Global,
@@ -151,6 +153,7 @@ pub fn answer_command<W: World + Send + Sync, J: Naming + Send + Sync, G: Gate, 
 }
 
 /// Writes what is written for the payloads from the phase on, until the session ends.
+/// The clauses tell what became of the pass, the transaction and the reply, which are lent one by one.
 fn answer_all<W: World + Send + Sync, J: Naming + Send + Sync, G: Gate, S: Sink>(
     rt: &(impl Threads + Wait + Sync),
     alloc: Global,
@@ -247,6 +250,7 @@ fn greet<S: Sink>(
 
 /// Writes what is written for the payloads that a piece gave, and the refusal of its fault after them; in a session that is new,
 /// after the greeting.
+/// The clauses tell what became of the pass, the transaction and the reply, which are lent one by one.
 pub fn answer_fed<W: World + Send + Sync, J: Naming + Send + Sync, G: Gate, S: Sink>(
     rt: &(impl Threads + Wait + Sync),
     alloc: Global,

@@ -1,5 +1,5 @@
 //! The definitions of a reply's columns: names, types and flags, of tables, joins and aggregates.
-ghost use Rattle.std.specs.Prelude.{◌≡◌, ◌==◌, ◌<◌, [], ◌∷◌, ◌++◌, vec_len, vec_capacity, IfOk, OnOk, IfErr, Some, None, false, slice_index_or, if◌then◌else◌};
+ghost use Rattle.std.specs.Prelude.{◌≡◌, ◌==◌, ◌<◌, [], ◌∷◌, ◌++◌, vec_len, vec_capacity, IfOk, OnOk, Some, None, false, slice_index_or, if◌then◌else◌};
 ghost use Rattle.std.specs.List.{list_any};
 ghost use Rattle.vschema.specs.Schema.{no_table};
 ghost use Rattle.sql_tree.specs.Printing.{item_text};
@@ -8,9 +8,9 @@ ghost use Rattle.conversation.specs.Columns.{shown_kind, base_flags, flags_of, n
 
 use resultset::{Column as ResultColumn, ColumnText, Kind};
 use sql_tree::{ColumnName, Item, Name, print_item};
-use std::alloc::Global;
+use std::alloc::{AllocError, Global};
 use vschema::{Column, ColumnType, Columns, Join, Table, VSchema};
-use vt_value::{Items, Refusal};
+use vt_value::Items;
 
 fn kind_of(kind: ColumnType) -> Kind
     ensures { result ≡ shown_kind kind }
@@ -59,9 +59,8 @@ fn keyspace_name<'a>(schema: &'a VSchema, table: &Table) -> &'a [u8]
     }
 }
 
-fn copy_name(alloc: Global, name: &[u8]) -> Result<Name, Refusal>
+fn copy_name(alloc: Global, name: &[u8]) -> Result<Name, AllocError>
     ensures ok { IfOk result (λ n. n ≡ name.now) }
-    ensures err { IfErr result (λ e. e ≡ Refusal.OutOfMemory) }
 {
     let copied = Items::from_slice(alloc, name)?;
     Ok(copied)
@@ -138,9 +137,8 @@ fn type_at(table: &Table, ordinal: usize) -> ColumnType
     }
 }
 
-fn bare_name_at(alloc: Global, table: &Table, ordinal: usize) -> Result<Name, Refusal>
+fn bare_name_at(alloc: Global, table: &Table, ordinal: usize) -> Result<Name, AllocError>
     ensures ok { IfOk result (λ n. n ≡ (column_at table.now ordinal).name) }
-    ensures err { IfErr result (λ e. e ≡ Refusal.OutOfMemory) }
 {
     match table.columns.as_slice().get(ordinal) {
         Some(column) => copy_name(alloc, column.name.as_slice()),
@@ -148,9 +146,8 @@ fn bare_name_at(alloc: Global, table: &Table, ordinal: usize) -> Result<Name, Re
     }
 }
 
-fn qualifier(alloc: Global, table: &Table, qualified: bool) -> Result<Option<Name>, Refusal>
+fn qualifier(alloc: Global, table: &Table, qualified: bool) -> Result<Option<Name>, AllocError>
     ensures ok { IfOk result (λ n. n ≡ (if qualified then Some table.now.name else None)) }
-    ensures err { IfErr result (λ e. e ≡ Refusal.OutOfMemory) }
 {
     if !qualified {
         return Ok(None);
@@ -164,9 +161,8 @@ fn name_at(
     table: &Table,
     qualified: bool,
     ordinal: usize,
-) -> Result<ColumnName, Refusal>
+) -> Result<ColumnName, AllocError>
     ensures ok { IfOk result (λ n. n ≡ name_at table.now qualified ordinal) }
-    ensures err { IfErr result (λ e. e ≡ Refusal.OutOfMemory) }
 {
     let name = bare_name_at(alloc, table, ordinal)?;
     let table = qualifier(alloc, table, qualified)?;
@@ -178,9 +174,8 @@ fn named_item(
     table: &Table,
     qualified: bool,
     item: &Item<usize>,
-) -> Result<Item<ColumnName>, Refusal>
+) -> Result<Item<ColumnName>, AllocError>
     ensures ok { IfOk result (λ i. i ≡ named_item table.now qualified item.now) }
-    ensures err { IfErr result (λ e. e ≡ Refusal.OutOfMemory) }
 {
     match item {
         Item::Column(ordinal) => {
@@ -236,12 +231,11 @@ fn printed_item(
     table: &Table,
     qualified: bool,
     item: &Item<usize>,
-) -> Result<Vec<u8>, Refusal>
+) -> Result<Vec<u8>, AllocError>
     ensures ok { IfOk result (λ text. text.items ≡ item_text (named_item table.now qualified item.now)) }
-    ensures err { IfErr result (λ e. e ≡ Refusal.OutOfMemory) }
 {
     let named = named_item(alloc, table, qualified, item)?;
-    print_item(alloc, &named)
+    Ok(print_item(alloc, &named)?)
 }
 
 fn define_aggregate(
@@ -249,9 +243,8 @@ fn define_aggregate(
     table: &Table,
     qualified: bool,
     item: &Item<usize>,
-) -> Result<ResultColumn<'static>, Refusal>
+) -> Result<ResultColumn<'static>, AllocError>
     ensures ok { IfOk result (DefinesAggregate table.now qualified item.now) }
-    ensures err { IfErr result (λ e. e ≡ Refusal.OutOfMemory) }
 {
     let printed = printed_item(alloc, table, qualified, item)?;
     Ok(ResultColumn {
@@ -271,9 +264,8 @@ fn define_aggregate_of(
     table: usize,
     qualified: bool,
     item: &Item<usize>,
-) -> Result<ResultColumn<'static>, Refusal>
+) -> Result<ResultColumn<'static>, AllocError>
     ensures ok { IfOk result (DefinesAggregate (slice_index_or schema.now.tables table no_table) qualified item.now) }
-    ensures err { IfErr result (λ e. e ≡ Refusal.OutOfMemory) }
 {
     match schema.tables.as_slice().get(table) {
         Some(table) => define_aggregate(alloc, table, qualified, item),
@@ -379,11 +371,10 @@ fn push_aggregate<'e>(
     qualified: bool,
     item: &Item<usize>,
     columns: &mut Vec<ResultColumn<'e>>,
-) -> Result<(), Refusal>
+) -> Result<(), AllocError>
     requires { vec_len columns.old < vec_capacity columns.old }
     ensures ok { OnOk result ((column : Defined) × DefinesAggregate (slice_index_or schema.now.tables table no_table) qualified item.now column
         × (columns.new.items ≡ columns.old.items ++ column ∷ [])) }
-    ensures err { IfErr result (λ e. e ≡ Refusal.OutOfMemory) }
     ensures capacity { vec_capacity columns.new ≡ vec_capacity columns.old }
 {
     columns.push_reserved(define_aggregate_of(alloc, schema, table, qualified, item)?);
@@ -391,6 +382,7 @@ fn push_aggregate<'e>(
 }
 
 // Appends the definition of an item to a list that has room for it.
+// Of the query it takes the parts that name and type a column.
 fn push_item<'e>(
     alloc: Global,
     schema: &'e VSchema,
@@ -399,12 +391,11 @@ fn push_item<'e>(
     qualified: bool,
     item: &Item<usize>,
     columns: &mut Vec<ResultColumn<'e>>,
-) -> Result<(), Refusal>
+) -> Result<(), AllocError>
     requires { vec_len columns.old < vec_capacity columns.old }
     ensures ok { OnOk result ((column : Defined)
         × DefinesItem schema.now (slice_index_or schema.now.tables table no_table) join qualified item.now column
         × (columns.new.items ≡ columns.old.items ++ column ∷ [])) }
-    ensures err { IfErr result (λ e. e ≡ Refusal.OutOfMemory) }
     ensures capacity { vec_capacity columns.new ≡ vec_capacity columns.old }
 {
     match item {
@@ -437,9 +428,8 @@ pub fn columns_of<'e>(
     join: Option<Join>,
     items: &[Item<usize>],
     qualified: &[bool],
-) -> Result<Items<ResultColumn<'e>>, Refusal>
+) -> Result<Items<ResultColumn<'e>>, AllocError>
     ensures ok { IfOk result (AreColumns schema.now table join items.now qualified.now) }
-    ensures err { IfErr result (λ e. e ≡ Refusal.OutOfMemory) }
 {
     let mut columns = Vec::with_capacity(alloc, items.len())?;
     for item in items {

@@ -1,5 +1,5 @@
 //! The reply to a statement: what its text gives its client, and the packets that carry it.
-ghost use Rattle.std.specs.Prelude.{◌≡◌, ℕ, ◌+◌, ◌≤◌, ◌⊎◌, true, false, [], ◌++◌, length, Some, None, is_some, IsSome, IfOk, IfErr, Option};
+ghost use Rattle.std.specs.Prelude.{◌≡◌, ℕ, ◌+◌, ◌≤◌, ◌⊎◌, true, false, [], ◌++◌, length, Some, None, is_some, IsSome, IfOk, Option};
 ghost use Rattle.std.specs.List.{concat};
 ghost use Rattle.shard_calls.specs.Pendings.{IsOf};
 ghost use Rattle.mysql_packet.specs.Frames.{frame};
@@ -31,7 +31,7 @@ use mysql_packet::Payload;
 use resultset::{Chunks, SetEnd, encode_rows_after};
 use route_engine::{Engine, Gate, Tx};
 use shard::{ShardPass, World};
-use std::alloc::Global;
+use std::alloc::{AllocError, Global};
 use std::sync::Wait;
 use std::thread::Threads;
 use vschema::VSchema;
@@ -108,11 +108,10 @@ fn put_set(
     number: u8,
     status: u16,
     reply: &mut BytesMut,
-) -> Result<Chunks, Refusal>
+) -> Result<Chunks, AllocError>
     requires empty { reply.old.items ≡ [] }
     requires room { REPLY_ROOM ≤ reply.old.spare }
     ensures ok { IfOk result (λ chunks. concat chunks ++ reply.new.items ≡ encoded end (Outcome.Rows set.entry) number status) }
-    ensures err { IfErr result (λ e. e ≡ Refusal.OutOfMemory) }
     ensures room { REPLY_ROOM ≤ length reply.new.items + reply.new.spare }
 {
     let ShownSet { columns, rows } = set;
@@ -250,6 +249,7 @@ fn put_option(several: bool, end: SetEnd, number: u8, status: u16, reply: &mut B
 }
 
 /// The reply to a text that isn't run, by what it asks of the server, and the session's state after it.
+/// The clauses tell what became of the pass, the transaction and the reply, which are lent one by one.
 #[inline(never)]
 fn put_asked<W: World + Send + Sync, J: Naming + Send + Sync, G: Gate>(
     rt: &(impl Threads + Wait + Sync),
@@ -284,6 +284,7 @@ fn put_asked<W: World + Send + Sync, J: Naming + Send + Sync, G: Gate>(
 }
 
 /// The reply to a query, and the session's state after it.
+/// The clauses tell what became of the pass, the transaction and the reply, which are lent one by one.
 fn put_query<W: World + Send + Sync, J: Naming + Send + Sync, G: Gate>(
     rt: &(impl Threads + Wait + Sync),
     alloc: Global,
@@ -323,6 +324,7 @@ fn put_query<W: World + Send + Sync, J: Naming + Send + Sync, G: Gate>(
 
 /// The reply to a command whose numbers are right, of which the last is given, and the session's state after it. A reply lies in the buffer, and
 /// what comes before that of a long one in chunks.
+/// The clauses tell what became of the pass, the transaction and the reply, which are lent one by one.
 pub(crate) fn put_command<W: World + Send + Sync, J: Naming + Send + Sync, G: Gate>(
     rt: &(impl Threads + Wait + Sync),
     alloc: Global,
@@ -386,6 +388,7 @@ pub(crate) fn put_command<W: World + Send + Sync, J: Naming + Send + Sync, G: Ga
 
 /// What is written for one payload in the phase, and the session's state after it. A reply lies in the buffer, and what comes before that of a
 /// long one in chunks.
+/// The clauses tell what became of the pass, the transaction and the reply, which are lent one by one.
 pub fn put_reply<W: World + Send + Sync, J: Naming + Send + Sync, G: Gate>(
     rt: &(impl Threads + Wait + Sync),
     alloc: Global,

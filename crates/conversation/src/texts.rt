@@ -24,7 +24,7 @@ use route_engine::{Answer, Engine, Gate, Selected, Tx};
 use shard::{ShardPass, World};
 use sql_parser::parse;
 use sql_tree::Statement;
-use std::alloc::Global;
+use std::alloc::{AllocError, Global};
 use std::sync::Wait;
 use std::thread::Threads;
 use vschema::VSchema;
@@ -34,10 +34,9 @@ fn result_set<'e>(
     alloc: Global,
     schema: &'e VSchema,
     selected: Selected,
-) -> Result<ShownSet<'e>, Refusal>
+) -> Result<ShownSet<'e>, AllocError>
     ensures columns { IfOk result (λ set. AreColumns schema.now selected.table selected.join selected.items selected.qualified set.columns) }
     ensures rows { IfOk result (λ set. set.rows ≡ selected.rows) }
-    ensures err { IfErr result (λ e. e ≡ Refusal.OutOfMemory) }
 {
     let columns = columns_of(
         alloc,
@@ -74,8 +73,8 @@ fn shown_rows<'e>(alloc: Global, schema: &'e VSchema, selected: Selected) -> Cli
         Ok(set) => ClientReply {
             reply_kind: ClientReplyKind::Rows(set),
         },
-        Err(refusal) => ClientReply {
-            reply_kind: ClientReplyKind::Refused(refusal),
+        Err(_) => ClientReply {
+            reply_kind: ClientReplyKind::Refused(Refusal::OutOfMemory),
         },
     }
 }
@@ -191,6 +190,7 @@ fn text_opens_one(alloc: Global, text: &[u8]) -> Result<bool, Refusal>
 }
 
 /// What a text gives that is run over the tables while autocommit is off and no transaction is open: one is opened first, if it needs that.
+/// The clauses tell what became of the pass and the transaction, which are lent one by one.
 #[inline(never)]
 fn run_unopened<'e, W: World + Send + Sync, J: Naming + Send + Sync, G: Gate>(
     rt: &(impl Threads + Wait + Sync),
@@ -220,6 +220,7 @@ fn run_unopened<'e, W: World + Send + Sync, J: Naming + Send + Sync, G: Gate>(
 }
 
 /// What a text gives that is run over the tables.
+/// The clauses tell what became of the pass and the transaction, which are lent one by one.
 pub(crate) fn run_text<'e, W: World + Send + Sync, J: Naming + Send + Sync, G: Gate>(
     rt: &(impl Threads + Wait + Sync),
     alloc: Global,
@@ -269,6 +270,7 @@ fn turned_on<'e, W: World + Send + Sync, J: Naming + Send + Sync, G: Gate>(
 }
 
 /// What a statement gives that asks something of the server, and what then holds for commands.
+/// The clauses tell what became of the pass and the transaction, which are lent one by one.
 fn statement_outcome<'e, W: World + Send + Sync, J: Naming + Send + Sync, G: Gate>(
     rt: &(impl Threads + Wait + Sync),
     alloc: Global,
@@ -309,6 +311,7 @@ fn statement_outcome<'e, W: World + Send + Sync, J: Naming + Send + Sync, G: Gat
 }
 
 /// What is given by what a text asks of the server, and what then holds for commands; if that is nothing, it is refused for why it wasn't run.
+/// The clauses tell what became of the pass and the transaction, which are lent one by one.
 fn answer_read<'e, W: World + Send + Sync, J: Naming + Send + Sync, G: Gate>(
     rt: &(impl Threads + Wait + Sync),
     alloc: Global,
@@ -336,6 +339,7 @@ fn answer_read<'e, W: World + Send + Sync, J: Naming + Send + Sync, G: Gate>(
 }
 
 /// What a text gives that isn't run, and what then holds for commands: what it asks of the server, or its refusal.
+/// The clauses tell what became of the pass and the transaction, which are lent one by one.
 pub(crate) fn asked<'e, W: World + Send + Sync, J: Naming + Send + Sync, G: Gate>(
     rt: &(impl Threads + Wait + Sync),
     alloc: Global,

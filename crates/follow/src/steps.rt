@@ -22,7 +22,7 @@ use crate::workflow_shard::WorkflowShard;
 use journal::Naming;
 use shard::{ShardPass, ShardState, World};
 use shard_run::{Copied, Follow, Mode, ShardRecord};
-use std::alloc::Global;
+use std::alloc::{AllocError, Global};
 use std::sync::Wait;
 use vschema::{Place, VSchema};
 use vt_value::Refusal;
@@ -66,13 +66,12 @@ fn next_entry<W: World, J: Naming>(
     schema: &VSchema,
     place: &Place,
     stands_after: Option<u128>,
-) -> Result<Option<Follow>, Refusal>
+) -> Result<Option<Follow>, AllocError>
     requires schema { schema.now ≡ W.opening.schema }
     requires serves { answers_queries (mode W.opening state.now.seen state.now.shard.slot) ≡ true }
     requires legal { IsLegal (MayFollow W.opening) state.now.seen }
     ensures entry { IfOk result (λ r. MatchOption r (NoneLeft state.now.seen state.now.shard.slot stands_after)
         (λ f. (stands_after ≡ Some f.log_position) × IsEntryFor W.opening state.now.seen state.now.shard.slot place.now f)) }
-    ensures err { IfErr result (λ e. e ≡ Refusal.OutOfMemory) }
 {
     let Some(stands_after) = stands_after else {
         return Ok(None);
@@ -89,7 +88,7 @@ fn next_for<W: World, J: Naming>(
     alloc: Global,
     schema: &VSchema,
     target: &ShardState<W, J>,
-) -> Result<NextEntry, Refusal>
+) -> Result<NextEntry, AllocError>
     requires schema { schema.now ≡ W.opening.schema }
     requires formed { IsTrue (is_vschema W.opening.schema) }
     requires serves { answers_queries (mode W.opening state.old.seen state.old.shard.slot) ≡ true }
@@ -97,7 +96,6 @@ fn next_for<W: World, J: Naming>(
     requires follows { mode W.opening target.now.seen target.now.shard.slot ≡ Mode.Following }
     requires came { IsLegal (MayFollow W.opening) target.now.seen }
     ensures given { IfOk result (IsNextForTarget W.opening state.old.seen state.old.shard target.now) }
-    ensures err { IfErr result (λ e. e ≡ Refusal.OutOfMemory) }
 {
     let source = state.slot();
     let place = &target.shard().place;
@@ -122,7 +120,7 @@ fn try_next_for<W: World, J: Naming>(
     schema: &VSchema,
     source: &ShardRecord,
     target: &ShardState<W, J>,
-) -> Result<Option<NextEntry>, Refusal>
+) -> Result<Option<NextEntry>, AllocError>
     requires schema { schema.now ≡ W.opening.schema }
     requires formed { IsTrue (is_vschema W.opening.schema) }
     requires legal { IsLegal (MayFollow W.opening) pass.old.seen }
@@ -132,7 +130,6 @@ fn try_next_for<W: World, J: Naming>(
     ensures looked { IfOk result (λ r. MatchOption r (pass.new ≡ pass.old) (λ _. IsOneLook source.now.slot pass.old pass.new)) }
     ensures refused { OnErr result (IsOneLook source.now.slot pass.old pass.new) }
     ensures onward { IsOnward W.opening pass.old pass.new }
-    ensures err { IfErr result (λ e. e ≡ Refusal.OutOfMemory) }
 {
     if !(state.is(source) && serves(state)) {
         return Ok(None);
@@ -150,7 +147,7 @@ fn next_from<W: World, J: Naming>(
     schema: &VSchema,
     source: &WorkflowShard<W, J>,
     target: &ShardState<W, J>,
-) -> Result<NextEntry, Refusal>
+) -> Result<NextEntry, AllocError>
     requires schema { schema.now ≡ W.opening.schema }
     requires formed { IsTrue (is_vschema W.opening.schema) }
     requires legal { IsLegal (MayFollow W.opening) pass.old.seen }
@@ -159,7 +156,6 @@ fn next_from<W: World, J: Naming>(
     ensures given { IfOk result (IsNextForTarget W.opening pass.new.seen source.now.which target.now) }
     ensures looked { IsOneLook source.now.which.slot pass.old pass.new }
     ensures onward { IsOnward W.opening pass.old pass.new }
-    ensures err { IfErr result (λ e. e ≡ Refusal.OutOfMemory) }
 {
     for _ in rt.forever() {
         let given = try_next_for(
@@ -281,6 +277,7 @@ fn come_forward<W: World, J: Naming>(
 }
 
 // A step, if the state is the target's and it follows.
+// The clauses tell what became of the pass and the target's state, which are lent one by one.
 fn try_step<W: World, J: Naming>(
     rt: &impl Wait,
     alloc: Global,

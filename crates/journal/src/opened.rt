@@ -10,7 +10,7 @@ use crate::rule::{Rule, View};
 use crate::seat::ShardSeat;
 use crate::words::{Knower, Words};
 use atomic_table::Table;
-use std::alloc::Global;
+use std::alloc::{AllocError, Global};
 use std::marker::{Model, PhantomData};
 use std::sync::Arc;
 use vt_value::Refusal;
@@ -59,13 +59,12 @@ impl<L: Law> Opened<L> {
         alloc: Global,
         words: &Arc<Words<L, J>>,
         from: &mut Knower<L>,
-    ) -> Result<Vec<ShardSeat<L, J>>, Refusal>
+    ) -> Result<Vec<ShardSeat<L, J>>, AllocError>
         requires table { from.old.table_id ≡ J.table }
         requires all { from.old.me ≡ (dealing_view 0, []) }
         ensures table { from.new.table_id ≡ J.table }
         ensures none { OnOk result (from.new.me ≡ (dealing_view 64, [])) }
         ensures seats { IfOk result (λ seats. seats.items ≡ fresh_seats 64) }
-        ensures refused { IfErr result (λ e. e ≡ OutOfMemory) }
     {
         let mut seats = Vec::with_capacity(alloc, SLOTS)?;
         for slot in 0..SLOTS {
@@ -77,16 +76,15 @@ impl<L: Law> Opened<L> {
     }
 
     /// The seats of the slots in order, the opener, which gives number 0 first, and a first pass without a session
-    /// number, all under the table's name. It refuses `OutOfMemory` if no block is given.
+    /// number, all under the table's name. It refuses only if no block is given.
     pub fn named<J: Naming>(
         self,
         alloc: Global,
-    ) -> Result<(Vec<ShardSeat<L, J>>, Opener<L, J>, Pass<L, J>), Refusal>
+    ) -> Result<(Vec<ShardSeat<L, J>>, Opener<L, J>, Pass<L, J>), AllocError>
         requires name { self ≡ J.table }
         ensures seats { IfOk result (λ r. r.0.items ≡ fresh_seats 64) }
         ensures opener { IfOk result (λ r. r.1 ≡ 0) }
         ensures pass { IfOk result (λ r. r.2 ≡ new_pass [] None) }
-        ensures refused { IfErr result (λ e. e ≡ OutOfMemory) }
     {
         let Opened { table, mut seat } = self;
         let words = Arc::new(

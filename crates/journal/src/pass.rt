@@ -1,9 +1,10 @@
 //! What one session has seen of the run. Passes meet where threads exchange what they have seen, and each commit is numbered by its pass.
 ghost use Rattle.std.specs.Prelude.{ℕ, Some, ◌≡◌, ◌≢◌, ◌⊎◌, ◌+◌, ◌++◌, [], None, IfOk, IfErr, ◌≤◌, ◌<◌, ◌^◌};
-ghost use Rattle.vt_value.specs.declared.refusal.Refusal.TheVariants.{OutOfMemory, ShardFull};
+ghost use Rattle.vt_value.specs.declared.refusal.Refusal.TheVariants.{ShardFull};
 
 use crate::law::{Law, Naming};
 use crate::words::{Knower, Words};
+use std::alloc::AllocError;
 use std::marker::Model;
 use std::sync::Arc;
 use vt_value::Refusal;
@@ -81,11 +82,10 @@ impl<L: Law, J: Naming> Pass<L, J> {
     // pass that joined another has its looks too; no two passes have one session number
     // With: Pass::{meet, join}
     /// A pass without a session number or looks, which has seen as much: a worker's, to be joined back. It refuses
-    /// `OutOfMemory` if there are too many handles.
-    pub fn split(&mut self) -> Result<Pass<L, J>, Refusal>
+    /// only if there are too many handles.
+    pub fn split(&mut self) -> Result<Pass<L, J>, AllocError>
         ensures same { self.new ≡ self.old }
         ensures new { IfOk result (λ p. p ≡ new_pass self.old.seen None) }
-        ensures refused { IfErr result (λ e. e ≡ OutOfMemory) }
     {
         let words = Arc::try_clone(&self.words)?;
         let seat = words.note(&mut self.seat);

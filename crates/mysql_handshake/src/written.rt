@@ -1,5 +1,5 @@
 //! What the server writes in the connection phase.
-ghost use Rattle.std.specs.Prelude.{◌≡◌, ◌+◌, ◌≤◌, ◌++◌, ◌∷◌, [], length, IfErr, IfOk, IsOk, OnErr, OnOk};
+ghost use Rattle.std.specs.Prelude.{◌≡◌, ◌+◌, ◌≤◌, ◌++◌, ◌∷◌, [], length, IfOk, IsOk, OnErr, OnOk};
 ghost use Rattle.mysql_packet.specs.Frames.{frame, number_after};
 ghost use Rattle.mysql_handshake.specs.Handshakes.{plugin_name, greeting_start, greeting_flags, greeting_payload, auth_switch_payload};
 
@@ -11,7 +11,7 @@ use arrayvec::ArrayVec;
 use bytes::BytesMut;
 use mysql_message::numbers::little_endian;
 use mysql_packet::put_payload;
-use vt_value::Refusal;
+use std::alloc::AllocError;
 
 /// More than the payload of a greeting or an AuthSwitchRequest takes.
 const MAX_PAYLOAD: usize = 80;
@@ -120,12 +120,11 @@ fn auth_switch_payload(salt: &[u8; 20]) -> ArrayVec<u8, MAX_PAYLOAD>
 }
 
 #[tactic(auto, using(crate::proofs::Fits::length_handshake_frame))]
-fn put_short(number: u8, payload: &[u8], out: &mut BytesMut) -> Result<u8, Refusal>
+fn put_short(number: u8, payload: &[u8], out: &mut BytesMut) -> Result<u8, AllocError>
     requires { length payload.now ≤ 80 }
     ensures ok { OnOk result (out.new.items ≡ out.old.items ++ frame number payload.now) }
     ensures next { IfOk result (λ n. n ≡ number_after number payload.now) }
     ensures err { OnErr result (out.new.items ≡ out.old.items) }
-    ensures memory { IfErr result (λ e. e ≡ Refusal.OutOfMemory) }
     ensures room { 84 ≤ out.old.spare → IsOk result }
     ensures capacity { length out.old.items + out.old.spare ≤ length out.new.items + out.new.spare }
 {
@@ -136,11 +135,10 @@ fn put_short(number: u8, payload: &[u8], out: &mut BytesMut) -> Result<u8, Refus
 // With: put_auth_switch
 /// Appends the greeting of the connection with this id, whose packet has the number 0. It gives the sequence number
 /// after it. It refuses only for want of memory, and then leaves the buffer as it was.
-pub fn put_greeting(id: u32, salt: &[u8; 20], out: &mut BytesMut) -> Result<u8, Refusal>
+pub fn put_greeting(id: u32, salt: &[u8; 20], out: &mut BytesMut) -> Result<u8, AllocError>
     ensures ok { OnOk result (out.new.items ≡ out.old.items ++ frame 0 (greeting_payload id salt.now)) }
     ensures next { IfOk result (λ n. n ≡ number_after 0 (greeting_payload id salt.now)) }
     ensures err { OnErr result (out.new.items ≡ out.old.items) }
-    ensures memory { IfErr result (λ e. e ≡ Refusal.OutOfMemory) }
     // With that much room it can't fail.
     ensures room { HANDSHAKE_ROOM ≤ out.old.spare → IsOk result }
     // No room is ever lost.
@@ -152,11 +150,10 @@ pub fn put_greeting(id: u32, salt: &[u8; 20], out: &mut BytesMut) -> Result<u8, 
 
 /// Appends the request to answer the salt by `mysql_native_password`. It gives the sequence number after it. It refuses
 /// only for want of memory, and then leaves the buffer as it was.
-pub fn put_auth_switch(number: u8, salt: &[u8; 20], out: &mut BytesMut) -> Result<u8, Refusal>
+pub fn put_auth_switch(number: u8, salt: &[u8; 20], out: &mut BytesMut) -> Result<u8, AllocError>
     ensures ok { OnOk result (out.new.items ≡ out.old.items ++ frame number (auth_switch_payload salt.now)) }
     ensures next { IfOk result (λ n. n ≡ number_after number (auth_switch_payload salt.now)) }
     ensures err { OnErr result (out.new.items ≡ out.old.items) }
-    ensures memory { IfErr result (λ e. e ≡ Refusal.OutOfMemory) }
     // With that much room it can't fail.
     ensures room { HANDSHAKE_ROOM ≤ out.old.spare → IsOk result }
     // No room is ever lost.

@@ -1,11 +1,12 @@
 //! Writes the packets that carry no rows: OK, EOF, ERR and the line of COM_STATISTICS.
-ghost use Rattle.std.specs.Prelude.{◌≡◌, ◌+◌, ◌<◌, ◌≤◌, ◌++◌, length, IfErr, IfOk, IsOk, OnErr, OnOk};
+ghost use Rattle.std.specs.Prelude.{◌≡◌, ◌+◌, ◌<◌, ◌≤◌, ◌++◌, length, IfOk, IsOk, OnErr, OnOk};
 ghost use Rattle.mysql_packet.specs.Frames.{frame, number_after};
 ghost use Rattle.mysql_message.specs.Messages.{ok_payload, eof_payload, set_end_payload, statistics_payload, err_payload};
 
 use crate::numbers::{length_encoded, little_endian, make_room};
 use arrayvec::ArrayVec;
 use bytes::BytesMut;
+use std::alloc::AllocError;
 use vt_value::Refusal;
 
 /// The first byte of an OK packet.
@@ -50,11 +51,10 @@ pub fn set_end_payload(status: u16) -> [u8; 7]
 // With: put_eof, put_err, put_set_end, put_statistics, eof_payload, set_end_payload
 /// Appends an OK packet: so many affected rows, 0 as the last insert id, the status, no warnings. It gives the
 /// sequence number after it. It refuses only for want of memory, and then leaves the buffer as it was.
-pub fn put_ok(number: u8, affected: u64, status: u16, out: &mut BytesMut) -> Result<u8, Refusal>
+pub fn put_ok(number: u8, affected: u64, status: u16, out: &mut BytesMut) -> Result<u8, AllocError>
     ensures ok { OnOk result (out.new.items ≡ out.old.items ++ frame number (ok_payload affected status)) }
     ensures next { IfOk result (λ n. n ≡ number_after number (ok_payload affected status)) }
     ensures err { OnErr result (out.new.items ≡ out.old.items) }
-    ensures memory { IfErr result (λ e. e ≡ Refusal.OutOfMemory) }
     // With that much room it can't fail.
     ensures room { 64 ≤ out.old.spare → IsOk result }
     // No room is ever lost.
@@ -68,11 +68,10 @@ pub fn put_ok(number: u8, affected: u64, status: u16, out: &mut BytesMut) -> Res
 
 /// Appends an EOF packet: no warnings, the status. It gives the sequence number after it. It refuses only for want of
 /// memory, and then leaves the buffer as it was.
-pub fn put_eof(number: u8, status: u16, out: &mut BytesMut) -> Result<u8, Refusal>
+pub fn put_eof(number: u8, status: u16, out: &mut BytesMut) -> Result<u8, AllocError>
     ensures ok { OnOk result (out.new.items ≡ out.old.items ++ frame number (eof_payload status)) }
     ensures next { IfOk result (λ n. n ≡ number_after number (eof_payload status)) }
     ensures err { OnErr result (out.new.items ≡ out.old.items) }
-    ensures memory { IfErr result (λ e. e ≡ Refusal.OutOfMemory) }
     // With that much room it can't fail.
     ensures room { 64 ≤ out.old.spare → IsOk result }
     // No room is ever lost.
@@ -84,11 +83,10 @@ pub fn put_eof(number: u8, status: u16, out: &mut BytesMut) -> Result<u8, Refusa
 /// Appends the packet that ends a result set if client and server set CLIENT_DEPRECATE_EOF: no affected rows, 0 as
 /// the last insert id, the status, no warnings. It gives the sequence number after it. It refuses only for want of
 /// memory, and then leaves the buffer as it was.
-pub fn put_set_end(number: u8, status: u16, out: &mut BytesMut) -> Result<u8, Refusal>
+pub fn put_set_end(number: u8, status: u16, out: &mut BytesMut) -> Result<u8, AllocError>
     ensures ok { OnOk result (out.new.items ≡ out.old.items ++ frame number (set_end_payload status)) }
     ensures next { IfOk result (λ n. n ≡ number_after number (set_end_payload status)) }
     ensures err { OnErr result (out.new.items ≡ out.old.items) }
-    ensures memory { IfErr result (λ e. e ≡ Refusal.OutOfMemory) }
     // With that much room it can't fail.
     ensures room { 64 ≤ out.old.spare → IsOk result }
     // No room is ever lost.
@@ -99,11 +97,10 @@ pub fn put_set_end(number: u8, status: u16, out: &mut BytesMut) -> Result<u8, Re
 
 /// Appends an ERR packet: the error code, `#` and the SQL state, and the message of the refusal. It gives the sequence
 /// number after it. It refuses only for want of memory, and then leaves the buffer as it was.
-pub fn put_err(number: u8, refusal: Refusal, out: &mut BytesMut) -> Result<u8, Refusal>
+pub fn put_err(number: u8, refusal: Refusal, out: &mut BytesMut) -> Result<u8, AllocError>
     ensures ok { OnOk result (out.new.items ≡ out.old.items ++ frame number (err_payload refusal)) }
     ensures next { IfOk result (λ n. n ≡ number_after number (err_payload refusal)) }
     ensures err { OnErr result (out.new.items ≡ out.old.items) }
-    ensures memory { IfErr result (λ e. e ≡ Refusal.OutOfMemory) }
     // With that much room it can't fail.
     ensures room { 64 ≤ out.old.spare → IsOk result }
     // No room is ever lost.
@@ -115,11 +112,10 @@ pub fn put_err(number: u8, refusal: Refusal, out: &mut BytesMut) -> Result<u8, R
 
 /// Appends the line about the server that answers COM_STATISTICS: its version. It gives the sequence number after it. It refuses only for want
 /// of memory, and then leaves the buffer as it was.
-pub fn put_statistics(number: u8, out: &mut BytesMut) -> Result<u8, Refusal>
+pub fn put_statistics(number: u8, out: &mut BytesMut) -> Result<u8, AllocError>
     ensures ok { OnOk result (out.new.items ≡ out.old.items ++ frame number statistics_payload) }
     ensures next { IfOk result (λ n. n ≡ number_after number statistics_payload) }
     ensures err { OnErr result (out.new.items ≡ out.old.items) }
-    ensures memory { IfErr result (λ e. e ≡ Refusal.OutOfMemory) }
     // With that much room it can't fail.
     ensures room { 64 ≤ out.old.spare → IsOk result }
     // No room is ever lost.
@@ -139,11 +135,15 @@ fn small_ok_payload(affected: u8, status: u16) -> [u8; 7]
 
 /// `put_ok` of a number that takes more. It has places of its own, which others don't have to fill.
 #[inline(never)]
-fn put_large_ok(number: u8, affected: u64, status: u16, out: &mut BytesMut) -> Result<u8, Refusal>
+fn put_large_ok(
+    number: u8,
+    affected: u64,
+    status: u16,
+    out: &mut BytesMut,
+) -> Result<u8, AllocError>
     ensures ok { OnOk result (out.new.items ≡ out.old.items ++ frame number (ok_payload affected status)) }
     ensures next { IfOk result (λ n. n ≡ number_after number (ok_payload affected status)) }
     ensures err { OnErr result (out.new.items ≡ out.old.items) }
-    ensures memory { IfErr result (λ e. e ≡ Refusal.OutOfMemory) }
     ensures room { 64 ≤ out.old.spare → IsOk result }
     ensures capacity { length out.old.items + out.old.spare ≤ length out.new.items + out.new.spare }
 {
@@ -184,12 +184,11 @@ fn extend(payload: &mut ArrayVec<u8, MAX_PAYLOAD>, more: &[u8])
 
 /// Appends the one packet of a short payload.
 #[tactic(auto, using(crate::proofs::Short::short_frame, crate::proofs::Short::number_after_short))]
-fn put_short(number: u8, payload: &[u8], out: &mut BytesMut) -> Result<u8, Refusal>
+fn put_short(number: u8, payload: &[u8], out: &mut BytesMut) -> Result<u8, AllocError>
     requires { length payload.now ≤ 60 }
     ensures ok { OnOk result (out.new.items ≡ out.old.items ++ frame number payload.now) }
     ensures next { IfOk result (λ n. n ≡ number_after number payload.now) }
     ensures err { OnErr result (out.new.items ≡ out.old.items) }
-    ensures memory { IfErr result (λ e. e ≡ Refusal.OutOfMemory) }
     ensures room { 64 ≤ out.old.spare → IsOk result }
     ensures capacity { length out.old.items + out.old.spare ≤ length out.new.items + out.new.spare }
 {

@@ -1,12 +1,11 @@
 //! Reads payloads from a stream that comes in pieces. It keeps only the bytes of a payload that isn't whole yet.
-ghost use Rattle.std.specs.Prelude.{◌≡◌, ◌↔◌, IsTrue, ℕ, [], ◌≤◌, ◌++◌, List, None, Some, drop, IfErr, IfOk, IfSome, IsNone, OnErr, vec_len};
+ghost use Rattle.std.specs.Prelude.{◌≡◌, ◌↔◌, IsTrue, ℕ, [], ◌≤◌, ◌++◌, List, None, Some, drop, IfOk, IfSome, IsNone, OnErr, vec_len};
 ghost use Rattle.mysql_packet.specs.Frames.{IsRefusedAfter};
 ghost use Rattle.mysql_packet.specs.Framing.{HasFramed};
 ghost use Rattle.mysql_packet.specs.declared.framer.Payload.{Payload};
-ghost use Rattle.vt_value.specs.declared.refusal.Refusal.{Refusal};
 
 use crate::front::take_payloads;
-use std::alloc::Global;
+use std::alloc::{AllocError, Global};
 use std::marker::Model;
 use vt_value::{Items, Refusal};
 
@@ -89,13 +88,13 @@ impl Framer {
     // fault alone
     // Clauses: fault, stopped, again
     // Promise: If memory is refused, the piece counts as not fed
-    // Clauses: err, memory
+    // Clauses: err
     /// Takes the next piece of the stream: gives each payload that is whole now, in order, and after them the fault,
     /// if a header is refused there. A payload's packets are numbered one after another, modulo 256, from any first
     /// number, and together have at most as many bytes as the limit. A header is refused as soon as it has come, its
     /// number before its length, and after it the stream gives nothing more. Refuses only for want of memory, and the
     /// piece then counts as not fed.
-    pub fn feed(&mut self, piece: &[u8]) -> Result<Fed, Refusal>
+    pub fn feed(&mut self, piece: &[u8]) -> Result<Fed, AllocError>
         // However the stream was cut before, it is the payloads before and these so far, and less than one more.
         ensures payloads { IfOk result (λ fed. IsNone fed.fault → (stream : List ℕ) (before : List Payload) →
             HasFramed self.old stream before →
@@ -111,7 +110,6 @@ impl Framer {
         ensures limit { self.new.limit ≡ self.old.limit }
         // Refused for memory, the piece counts as not fed.
         ensures err { OnErr result (self.new ≡ self.old) }
-        ensures memory { IfErr result (λ e. e ≡ Refusal.OutOfMemory) }
     {
         let alloc = *self.pending.allocator();
         if let Some(fault) = self.fault {
@@ -133,7 +131,7 @@ impl Framer {
             }
             Err(error) => {
                 self.pending.truncate(before);
-                Err(Refusal::from(error))
+                Err(error)
             }
         }
     }

@@ -1,10 +1,9 @@
 //! Writes payloads as packets.
-ghost use Rattle.std.specs.Prelude.{◌≡◌, ◌+◌, ◌*◌, ◌%◌, ◌<◌, ◌≤◌, ◌++◌, length, IfErr, IfOk, IsOk, OnErr, OnOk};
+ghost use Rattle.std.specs.Prelude.{◌≡◌, ◌+◌, ◌*◌, ◌%◌, ◌<◌, ◌≤◌, ◌++◌, length, IfOk, IsOk, OnErr, OnOk};
 ghost use Rattle.mysql_packet.specs.Frames.{frame, full, header, number_after, packet};
-ghost use Rattle.vt_value.specs.declared.refusal.Refusal.{Refusal};
 
 use bytes::BytesMut;
-use vt_value::Refusal;
+use std::alloc::AllocError;
 
 /// The length of a full part, after which another part of the same payload follows.
 pub(crate) const FULL_PART: usize = 0xFF_FFFF;
@@ -34,11 +33,10 @@ fn put_packet(number: u8, part: &[u8], out: &mut BytesMut)
 // fail
 /// Appends the packets of one payload, and gives the sequence number after its last: parts of 0xFFFFFF bytes, and
 /// then a shorter one, which may be empty. Refuses only for want of memory, and then leaves the buffer as it was.
-pub fn put_payload(number: u8, payload: &[u8], out: &mut BytesMut) -> Result<u8, Refusal>
+pub fn put_payload(number: u8, payload: &[u8], out: &mut BytesMut) -> Result<u8, AllocError>
     ensures ok { OnOk result (out.new.items ≡ out.old.items ++ frame number payload.now) }
     ensures next { IfOk result (λ n. n ≡ number_after number payload.now) }
     ensures err { OnErr result (out.new.items ≡ out.old.items) }
-    ensures memory { IfErr result (λ e. e ≡ Refusal.OutOfMemory) }
     // With that much room it can't fail.
     ensures room { length (frame number payload.now) ≤ out.old.spare → IsOk result }
     // No room is ever lost.

@@ -1,5 +1,5 @@
 //! Which shards a router opens with over a VSchema and ranges, and when ranges make an opening.
-ghost use Rattle.std.specs.Prelude.{◌≡◌, ◌++◌, ◌↔◌, [], length, map, replicate, IfOk, IfErr, OnOk, IsTrue};
+ghost use Rattle.std.specs.Prelude.{◌≡◌, ◌++◌, ◌↔◌, [], length, map, replicate, IfOk, OnOk, IsTrue};
 ghost use Rattle.std.specs.List.{AllByRecursion};
 ghost use Rattle.keyrange.specs.Names.{IsNamed};
 ghost use Rattle.vschema.specs.WellFormed.{is_vschema};
@@ -10,7 +10,7 @@ use keyrange::{KeyRange, covers_once};
 use shard_run::ShardRecord;
 use std::alloc::{AllocError, Global};
 use vschema::{Place, VSchema};
-use vt_value::{Items, Refusal};
+use vt_value::Items;
 
 // The keyspace that isn't sharded.
 fn unsharded_keyspace(schema: &VSchema) -> Option<usize>
@@ -72,9 +72,8 @@ pub fn opening_shards(
     alloc: Global,
     schema: &VSchema,
     ranges: &[KeyRange],
-) -> Result<Items<ShardRecord>, Refusal>
+) -> Result<Items<ShardRecord>, AllocError>
     ensures shards { IfOk result (λ shards. shards ≡ map (λ p. p.0) (opening_of schema.now ranges.now).shards) }
-    ensures err { IfErr result (λ e. e ≡ Refusal.OutOfMemory) }
     ensures opening { IsTrue (is_vschema schema.now) → FitRanges schema.now ranges.now → IsOpening (opening_of schema.now ranges.now) }
 {
     let mut shards = Items::new(alloc);
@@ -88,10 +87,9 @@ pub fn opening_shards(
 // 64 shards
 /// Whether the shards over ranges that have names make an opening: they hold each keyspace id of the sharded keyspace once, if there is one,
 /// and fit into 64 slots. It refuses only for want of memory.
-pub fn ranges_fit(alloc: Global, schema: &VSchema, ranges: &[KeyRange]) -> Result<bool, Refusal>
+pub fn ranges_fit(alloc: Global, schema: &VSchema, ranges: &[KeyRange]) -> Result<bool, AllocError>
     requires named { AllByRecursion IsNamed ranges.now }
     ensures fit { IfOk result (λ b. IsTrue b ↔ FitRanges schema.now ranges.now) }
-    ensures err { IfErr result (λ e. e ≡ Refusal.OutOfMemory) }
 {
     let shards = opening_shards(alloc, schema, ranges)?;
     if shards.len() > 64 {

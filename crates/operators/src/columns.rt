@@ -1,16 +1,15 @@
 //! Shows some columns of each row. A row that is shown whole is passed on as it is, without a copy.
-ghost use Rattle.std.specs.Prelude.{◌≡◌, true, length, map, IsTrue, IfOk, IfErr};
+ghost use Rattle.std.specs.Prelude.{◌≡◌, true, length, map, IsTrue, IfOk};
 ghost use Rattle.std.specs.List.{range_with_len};
 ghost use Rattle.vt_value.specs.Values.{value_at};
 ghost use Rattle.operators.specs.Slices.{columns_of};
 
 use crate::pulling::Operator;
-use std::alloc::Global;
-use vt_value::{Items, Refusal, Row, Value, copy};
+use std::alloc::{AllocError, Global};
+use vt_value::{Items, Row, Value, copy};
 
-fn copy_at(alloc: Global, row: &Row, ordinal: usize) -> Result<Value, Refusal>
+fn copy_at(alloc: Global, row: &Row, ordinal: usize) -> Result<Value, AllocError>
     ensures ok { IfOk result (λ v. v ≡ value_at row.now ordinal) }
-    ensures err { IfErr result (λ e. e ≡ Refusal.OutOfMemory) }
 {
     match row.as_slice().get(ordinal) {
         Some(value) => copy(alloc, value),
@@ -19,9 +18,8 @@ fn copy_at(alloc: Global, row: &Row, ordinal: usize) -> Result<Value, Refusal>
 }
 
 /// The values of a row at these ordinals, NULL after its end. Refuses only for want of memory.
-pub fn project_row(alloc: Global, ordinals: &[usize], row: &Row) -> Result<Row, Refusal>
+pub fn project_row(alloc: Global, ordinals: &[usize], row: &Row) -> Result<Row, AllocError>
     ensures ok { IfOk result (λ shown. shown ≡ columns_of ordinals.now row.now) }
-    ensures err { IfErr result (λ e. e ≡ Refusal.OutOfMemory) }
 {
     let mut values = Items::from_vec(Vec::with_capacity(alloc, ordinals.len())?);
     for ordinal in ordinals {
@@ -79,9 +77,9 @@ impl<O: Operator> Operator for Project<O> {
 
     ghost has_failed = { λ project. project.failed || O.has_failed project.input };
 
-    fn next(&mut self, alloc: Global) -> Result<Option<Row>, Refusal> {
+    fn next(&mut self, alloc: Global) -> Result<Option<Row>, AllocError> {
         if self.failed {
-            return Err(Refusal::OutOfMemory);
+            return Err(AllocError);
         }
         let Some(row) = self.input.next(alloc)? else {
             return Ok(None);

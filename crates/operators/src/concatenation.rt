@@ -3,8 +3,8 @@ ghost use Rattle.std.specs.Prelude.{◌≡◌, IsTrue, flat_map};
 ghost use Rattle.operators.specs.Slices.{first_is};
 
 use crate::pulling::Operator;
-use std::alloc::Global;
-use vt_value::{Refusal, Row};
+use std::alloc::{AllocError, Global};
+use vt_value::Row;
 
 /// The rows of several inputs, one input after the other.
 #[derive(Drop)]
@@ -32,7 +32,7 @@ impl<O: Operator> Operator for Concat<O> {
 
     ghost has_failed = { λ concat. first_is O.has_failed (drop concat.current concat.inputs.items) };
 
-    fn next(&mut self, alloc: Global) -> Result<Option<Row>, Refusal> {
+    fn next(&mut self, alloc: Global) -> Result<Option<Row>, AllocError> {
         while self.current < self.inputs.len() {
             if let Some(row) = self.inputs[self.current].next(alloc)? {
                 return Ok(Some(row));

@@ -1,14 +1,14 @@
 //! Merges inputs that are in order already. It holds one row of each input, and never sorts.
-ghost use Rattle.std.specs.Prelude.{◌≡◌, [], ◌∷◌, false, All, map, flat_map, MatchOption, IsPermutation, IsSorted, IfOk, IfErr, length, ◌<◌};
+ghost use Rattle.std.specs.Prelude.{◌≡◌, [], ◌∷◌, false, All, map, flat_map, MatchOption, IsPermutation, IsSorted, IfOk, length, ◌<◌};
 ghost use Rattle.operators.specs.Orders.{row_cmp};
 ghost use Rattle.operators.specs.inner.Merges.{row_lt, head_rows, earlier, IsFirst};
 
 use crate::pulling::Operator;
 use crate::sorting::compare_rows;
 use sql_tree::Key;
-use std::alloc::Global;
+use std::alloc::{AllocError, Global};
 use std::mem;
-use vt_value::{Refusal, Row};
+use vt_value::Row;
 
 /// An input, and the row that it gave last: none if it has ended.
 #[derive(Drop)]
@@ -19,9 +19,8 @@ struct Head<O> {
 
 impl<O: Operator> Head<O> {
     /// Pulls the input's first row.
-    fn new(alloc: Global, input: O) -> Result<Head<O>, Refusal>
+    fn new(alloc: Global, input: O) -> Result<Head<O>, AllocError>
         ensures rows { IfOk result (λ head. head_rows O.to_come head ≡ O.to_come input) }
-        ensures err { IfErr result (λ e. e ≡ Refusal.OutOfMemory) }
     {
         let mut input = input;
         let row = input.next(alloc)?;
@@ -29,11 +28,10 @@ impl<O: Operator> Head<O> {
     }
 
     /// The row, for which the input's next is pulled.
-    fn take(&mut self, alloc: Global) -> Result<Option<Row>, Refusal>
+    fn take(&mut self, alloc: Global) -> Result<Option<Row>, AllocError>
         ensures row { IfOk result (λ taken. MatchOption taken
             ((head_rows O.to_come self.old ≡ []) × (head_rows O.to_come self.new ≡ []))
             (λ row. head_rows O.to_come self.old ≡ row ∷ head_rows O.to_come self.new)) }
-        ensures err { IfErr result (λ e. e ≡ Refusal.OutOfMemory) }
     {
         if self.row.is_none() {
             return Ok(None);
@@ -44,9 +42,8 @@ impl<O: Operator> Head<O> {
 }
 
 /// The inputs, each with its first row.
-fn heads_of<O: Operator>(alloc: Global, inputs: Vec<O>) -> Result<Vec<Head<O>>, Refusal>
+fn heads_of<O: Operator>(alloc: Global, inputs: Vec<O>) -> Result<Vec<Head<O>>, AllocError>
     ensures rows { IfOk result (λ heads. map (head_rows O.to_come) heads.items ≡ map O.to_come inputs.items) }
-    ensures err { IfErr result (λ e. e ≡ Refusal.OutOfMemory) }
 {
     let mut heads = Vec::with_capacity(alloc, inputs.len())?;
     for input in inputs {
@@ -94,12 +91,11 @@ impl<'a, O: Operator> MergeSort<'a, O> {
         alloc: Global,
         inputs: Vec<O>,
         keys: &'a [Key<usize>],
-    ) -> Result<MergeSort<'a, O>, Refusal>
+    ) -> Result<MergeSort<'a, O>, AllocError>
         ensures permutation { IfOk result (λ merge. IsPermutation (flat_map O.to_come inputs.items) (⟦<MergeSort<'a, O> as Operator>⟧.to_come merge)) }
         ensures sorted { IfOk result (λ merge. All (λ input. IsSorted (row_cmp keys.now) (O.to_come input)) inputs.items
             → IsSorted (row_cmp keys.now) (⟦<MergeSort<'a, O> as Operator>⟧.to_come merge)) }
         ensures fresh { IfOk result (λ merge. ⟦<MergeSort<'a, O> as Operator>⟧.has_failed merge ≡ false) }
-        ensures err { IfErr result (λ e. e ≡ Refusal.OutOfMemory) }
     {
         Ok(MergeSort {
             keys,
@@ -116,9 +112,9 @@ impl<O: Operator> Operator for MergeSort<'_, O> {
 
     ghost has_failed = { λ merge. merge.failed };
 
-    fn next(&mut self, alloc: Global) -> Result<Option<Row>, Refusal> {
+    fn next(&mut self, alloc: Global) -> Result<Option<Row>, AllocError> {
         if self.failed {
-            return Err(Refusal::OutOfMemory);
+            return Err(AllocError);
         }
         if self.heads.is_empty() {
             return Ok(None);

@@ -1,13 +1,13 @@
 //! Rows as they were read, and what is shown of each.
-ghost use Rattle.std.specs.Prelude.{◌≡◌, [], ◌∷◌, false, length, IfOk, IfErr, IfSome};
+ghost use Rattle.std.specs.Prelude.{◌≡◌, [], ◌∷◌, false, length, IfOk, IfSome};
 ghost use Rattle.operators.specs.Slices.{shown_at};
 
 use crate::columns::project_row;
 use crate::pulling::{Operator, collect};
 use crate::stored::Rows;
-use std::alloc::Global;
+use std::alloc::{AllocError, Global};
 use std::marker::Model;
-use vt_value::{Items, Refusal, Row};
+use vt_value::{Items, Row};
 
 /// Rows of which the columns at given ordinals are shown, or all. What is shown of a row is made once it is pulled, so that what is held are
 /// the rows as they were read. Contracts see the rows as they are shown.
@@ -55,10 +55,9 @@ impl ShownRows {
     }
 
     /// Gives them, each as it is shown. Refuses only for want of memory.
-    pub fn pulled(self, alloc: Global) -> Result<PulledRows, Refusal>
+    pub fn pulled(self, alloc: Global) -> Result<PulledRows, AllocError>
         ensures ok { IfOk result (λ made. ⟦<PulledRows as Operator>⟧.to_come made ≡ self) }
         ensures fresh { IfOk result (λ made. ⟦<PulledRows as Operator>⟧.has_failed made ≡ false) }
-        ensures err { IfErr result (λ e. e ≡ Refusal.OutOfMemory) }
     {
         let ShownRows { rows, ordinals } = self;
         match Rows::new(alloc, rows) {
@@ -67,17 +66,16 @@ impl ShownRows {
                 ordinals,
                 failed: false,
             }),
-            Err(refusal) => {
+            Err(error) => {
                 drop(ordinals);
-                Err(refusal)
+                Err(error)
             }
         }
     }
 
     /// All of them, as they are shown. Refuses only for want of memory.
-    pub fn into_rows(self, alloc: Global) -> Result<Items<Row>, Refusal>
+    pub fn into_rows(self, alloc: Global) -> Result<Items<Row>, AllocError>
         ensures ok { IfOk result (λ rows. rows ≡ self) }
-        ensures err { IfErr result (λ e. e ≡ Refusal.OutOfMemory) }
     {
         let mut pulled = self.pulled(alloc)?;
         collect(alloc, &mut pulled)
@@ -93,9 +91,8 @@ pub struct PulledRows {
 }
 
 /// A row as it is shown.
-fn shown(alloc: Global, ordinals: &Option<Items<usize>>, row: Row) -> Result<Row, Refusal>
+fn shown(alloc: Global, ordinals: &Option<Items<usize>>, row: Row) -> Result<Row, AllocError>
     ensures ok { IfOk result (λ made. shown_at ordinals.now (row ∷ []) ≡ made ∷ []) }
-    ensures err { IfErr result (λ e. e ≡ Refusal.OutOfMemory) }
 {
     match ordinals {
         None => Ok(row),
@@ -110,9 +107,9 @@ impl Operator for PulledRows {
 
     ghost has_failed = { λ pulled. pulled.failed };
 
-    fn next(&mut self, alloc: Global) -> Result<Option<Row>, Refusal> {
+    fn next(&mut self, alloc: Global) -> Result<Option<Row>, AllocError> {
         if self.failed {
-            return Err(Refusal::OutOfMemory);
+            return Err(AllocError);
         }
         let Some(row) = self.rows.next(alloc)? else {
             return Ok(None);

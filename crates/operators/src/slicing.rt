@@ -1,11 +1,11 @@
 //! LIMIT and OFFSET. It stops calling its input once it has what it needs.
-ghost use Rattle.std.specs.Prelude.{◌≡◌, [], ◌∷◌, IsTrue, IfOk, IfErr, IsErr, IsOk, OnErr, OnOk, ◌↔◌, MatchOption, true, false, drop, ℕ};
+ghost use Rattle.std.specs.Prelude.{◌≡◌, [], ◌∷◌, IsTrue, IfOk, IsErr, IsOk, OnErr, OnOk, ◌↔◌, MatchOption, true, false, drop, ℕ};
 ghost use Rattle.operators.specs.Slices.{sliced};
 ghost use Rattle.operators.specs.Calls.{Calls, CallsAtMost, most_calls};
 
 use crate::pulling::Operator;
-use std::alloc::Global;
-use vt_value::{Refusal, Row};
+use std::alloc::{AllocError, Global};
+use vt_value::Row;
 
 /// The slice of an input's rows that LIMIT leaves. It calls its input at most offset plus count times, and never again once the input
 /// has failed.
@@ -18,10 +18,9 @@ pub struct Limit<O> {
 }
 
 /// Passes over `count` rows, or all if there are fewer.
-fn pass_over<O: Operator>(alloc: Global, input: &mut O, count: u64) -> Result<(), Refusal>
+fn pass_over<O: Operator>(alloc: Global, input: &mut O, count: u64) -> Result<(), AllocError>
     ensures ok { OnOk result (O.to_come input.new ≡ drop count (O.to_come input.old)) }
     ensures calls { CallsAtMost O.one_call count input.old input.new }
-    ensures err { IfErr result (λ e. e ≡ Refusal.OutOfMemory) }
 {
     for _ in 0..count {
         let Some(_row) = input.next(alloc)? else {
@@ -56,7 +55,7 @@ impl<O: Operator> Limit<O> {
     }
 
     /// The next row, if no call failed before.
-    fn pull(&mut self, alloc: Global) -> Result<Option<Row>, Refusal>
+    fn pull(&mut self, alloc: Global) -> Result<Option<Row>, AllocError>
         requires { self.old.failed ≡ false }
         ensures row { IfOk result (λ next. MatchOption next
             ((sliced self.old.rest (O.to_come self.old.input) ≡ []) × (sliced self.new.rest (O.to_come self.new.input) ≡ []))
@@ -64,7 +63,6 @@ impl<O: Operator> Limit<O> {
         ensures call { OnOk result (LimitCall O.one_call self.old self.new) }
         ensures failing { OnErr result (LimitCall O.one_call self.old (record self.new { failed = true })) }
         ensures same { self.new.failed ≡ false }
-        ensures err { IfErr result (λ e. e ≡ Refusal.OutOfMemory) }
     {
         let Some(limit) = self.rest else {
             return self.input.next(alloc);
@@ -98,9 +96,9 @@ impl<O: Operator> Operator for Limit<O> {
 
     ghost one_call = { LimitCall O.one_call };
 
-    fn next(&mut self, alloc: Global) -> Result<Option<Row>, Refusal> {
+    fn next(&mut self, alloc: Global) -> Result<Option<Row>, AllocError> {
         if self.failed {
-            return Err(Refusal::OutOfMemory);
+            return Err(AllocError);
         }
         let next = self.pull(alloc);
         self.failed = next.is_err();

@@ -1,13 +1,13 @@
 //! ORDER BY: the order of two rows by sort keys, and sorting by it.
-ghost use Rattle.std.specs.Prelude.{◌≡◌, IsPermutation, IsSorted, IfOk, IfErr, OnOk};
+ghost use Rattle.std.specs.Prelude.{◌≡◌, IsPermutation, IsSorted, IfOk, OnOk};
 ghost use Rattle.vt_value.specs.Values.{value_at};
 ghost use Rattle.operators.specs.Orders.{value_order, row_cmp};
 
 use crate::stored::into_vec;
 use sql_tree::Key;
-use std::alloc::Global;
+use std::alloc::{AllocError, Global};
 use std::cmp::Ordering;
-use vt_value::{Items, Refusal, Row, Value, sort_order};
+use vt_value::{Items, Row, Value, sort_order};
 
 fn at<'a>(row: &'a Row, ordinal: usize, null: &'a Value) -> &'a Value
     requires { null.now ≡ Value.Null }
@@ -46,10 +46,9 @@ pub fn compare_rows(keys: &[Key<usize>], a: &Row, b: &Row) -> Ordering
     Ordering::Equal
 }
 
-fn sort(rows: &mut Vec<Row>, keys: &[Key<usize>]) -> Result<(), Refusal>
+fn sort(rows: &mut Vec<Row>, keys: &[Key<usize>]) -> Result<(), AllocError>
     ensures permutation { IsPermutation rows.old.items rows.new.items }
     ensures sorted { OnOk result (IsSorted (row_cmp keys.now) rows.new.items) }
-    ensures err { IfErr result (λ e. e ≡ Refusal.OutOfMemory) }
 {
     rows.sort_by(|a, b| compare_rows(keys, a, b))?;
     Ok(())
@@ -60,10 +59,9 @@ pub fn sort_rows(
     alloc: Global,
     rows: Items<Row>,
     keys: &[Key<usize>],
-) -> Result<Items<Row>, Refusal>
+) -> Result<Items<Row>, AllocError>
     ensures permutation { IfOk result (λ arranged. IsPermutation rows arranged) }
     ensures sorted { IfOk result (λ arranged. IsSorted (row_cmp keys.now) arranged) }
-    ensures err { IfErr result (λ e. e ≡ Refusal.OutOfMemory) }
 {
     if rows.len() < 2 {
         return Ok(rows);

@@ -1,9 +1,9 @@
 //! Rows that are in memory already, as an operator.
-ghost use Rattle.std.specs.Prelude.{◌≡◌, reverse, IfOk, IfErr};
+ghost use Rattle.std.specs.Prelude.{◌≡◌, reverse, IfOk};
 
 use crate::pulling::Operator;
-use std::alloc::Global;
-use vt_value::{Items, Refusal, Row};
+use std::alloc::{AllocError, Global};
+use vt_value::{Items, Row};
 
 /// Rows that are there already, given in order.
 #[derive(Drop)]
@@ -27,11 +27,10 @@ impl Rows {
     // Promise: What each operator gives is what its inputs have: one input after the other, an arrangement that the keys allow, the slice
     // of a limit, the columns at given ordinals
     // With: Concat::new, MergeSort::new, Limit::new, Project::new, Rows::from_vec
-    // Clauses: rows, fresh, permutation, sorted, ok, err
+    // Clauses: rows, fresh, permutation, sorted, ok
     /// Gives these rows. Refuses only for want of memory.
-    pub fn new(alloc: Global, rows: Items<Row>) -> Result<Rows, Refusal>
+    pub fn new(alloc: Global, rows: Items<Row>) -> Result<Rows, AllocError>
         ensures ok { IfOk result (λ made. ⟦<Rows as Operator>⟧.to_come made ≡ rows) }
-        ensures err { IfErr result (λ e. e ≡ Refusal.OutOfMemory) }
     {
         // one row is its own reverse
         if rows.len() < 2 {
@@ -44,9 +43,8 @@ impl Rows {
 }
 
 /// The rows, the last one first.
-fn reversed(alloc: Global, rows: Items<Row>) -> Result<Vec<Row>, Refusal>
+fn reversed(alloc: Global, rows: Items<Row>) -> Result<Vec<Row>, AllocError>
     ensures ok { IfOk result (λ list. list.items ≡ reverse rows) }
-    ensures err { IfErr result (λ e. e ≡ Refusal.OutOfMemory) }
 {
     let mut rest = rows;
     let mut list = Vec::with_capacity(alloc, rest.len())?;
@@ -57,9 +55,8 @@ fn reversed(alloc: Global, rows: Items<Row>) -> Result<Vec<Row>, Refusal>
 }
 
 /// The rows, as a `Vec`. Refuses only for want of memory.
-pub fn into_vec(alloc: Global, rows: Items<Row>) -> Result<Vec<Row>, Refusal>
+pub fn into_vec(alloc: Global, rows: Items<Row>) -> Result<Vec<Row>, AllocError>
     ensures ok { IfOk result (λ list. list.items ≡ rows) }
-    ensures err { IfErr result (λ e. e ≡ Refusal.OutOfMemory) }
 {
     let mut list = reversed(alloc, rows)?;
     list.reverse();
@@ -73,7 +70,7 @@ impl Operator for Rows {
 
     ghost has_failed = { λ rows. false };
 
-    fn next(&mut self, _alloc: Global) -> Result<Option<Row>, Refusal> {
+    fn next(&mut self, _alloc: Global) -> Result<Option<Row>, AllocError> {
         Ok(self.reversed.pop())
     }
 }

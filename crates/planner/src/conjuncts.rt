@@ -1,14 +1,14 @@
 //! What the conjuncts of a condition say of the columns that decide the shard: the members of its AND, nested ANDs opened, from the left.
-ghost use Rattle.std.specs.Prelude.{◌≡◌, IfOk, IfErr, map, flat_map};
+ghost use Rattle.std.specs.Prelude.{◌≡◌, IfOk, map, flat_map};
 ghost use Rattle.std.specs.List.{list_any, list_all};
 ghost use Rattle.vt_value.specs.Values.{is_null};
 ghost use Rattle.planner.specs.Routes.{is_null_literal, is_never, of_kind, literal_with, equals, members_with, among, first_of};
 
 use crate::keys::{Keys, kind_in};
 use sql_tree::{Condition, Operand};
-use std::alloc::Global;
+use std::alloc::{AllocError, Global};
 use vschema::ColumnType;
-use vt_value::{Comparison, Items, Refusal, Value, copy, copy_row};
+use vt_value::{Comparison, Items, Value, copy, copy_row};
 
 pub fn is_null(value: &Value) -> bool
     ensures { result ≡ is_null value.now }
@@ -62,9 +62,8 @@ pub fn first_equal(
     alloc: Global,
     keys: Keys,
     condition: &Condition<usize>,
-) -> Result<Option<(ColumnType, Value)>, Refusal>
+) -> Result<Option<(ColumnType, Value)>, AllocError>
     ensures ok { IfOk result (λ found. found ≡ first_of (equals keys condition.now)) }
-    ensures err { IfErr result (λ e. e ≡ Refusal.OutOfMemory) }
 {
     match condition {
         Condition::Compare(Comparison::Eq, a, b) => literal_with(alloc, keys, a, b),
@@ -78,9 +77,8 @@ fn first_equal_of(
     alloc: Global,
     keys: Keys,
     members: &[Condition<usize>],
-) -> Result<Option<(ColumnType, Value)>, Refusal>
+) -> Result<Option<(ColumnType, Value)>, AllocError>
     ensures ok { IfOk result (λ found. found ≡ first_of (flat_map (λ l. l) (map (equals keys) members.now))) }
-    ensures err { IfErr result (λ e. e ≡ Refusal.OutOfMemory) }
 {
     for member in members {
         let found = first_equal(alloc, keys, member)?;
@@ -96,9 +94,8 @@ fn literal_with(
     keys: Keys,
     a: &Operand<usize>,
     b: &Operand<usize>,
-) -> Result<Option<(ColumnType, Value)>, Refusal>
+) -> Result<Option<(ColumnType, Value)>, AllocError>
     ensures ok { IfOk result (λ found. found ≡ first_of (literal_with keys a.now b.now)) }
-    ensures err { IfErr result (λ e. e ≡ Refusal.OutOfMemory) }
 {
     match (a, b) {
         (Operand::Column(ordinal), Operand::Literal(value))
@@ -113,9 +110,8 @@ fn copy_where(
     alloc: Global,
     kind: Option<ColumnType>,
     value: &Value,
-) -> Result<Option<(ColumnType, Value)>, Refusal>
+) -> Result<Option<(ColumnType, Value)>, AllocError>
     ensures ok { IfOk result (λ found. found ≡ first_of (of_kind kind value.now)) }
-    ensures err { IfErr result (λ e. e ≡ Refusal.OutOfMemory) }
 {
     match kind {
         Some(kind) => {
@@ -130,9 +126,8 @@ fn copy_members_where(
     alloc: Global,
     kind: Option<ColumnType>,
     members: &Items<Value>,
-) -> Result<Option<(ColumnType, Items<Value>)>, Refusal>
+) -> Result<Option<(ColumnType, Items<Value>)>, AllocError>
     ensures ok { IfOk result (λ found. found ≡ first_of (of_kind kind members.now)) }
-    ensures err { IfErr result (λ e. e ≡ Refusal.OutOfMemory) }
 {
     match kind {
         Some(kind) => {
@@ -148,9 +143,8 @@ fn members_with(
     keys: Keys,
     operand: &Operand<usize>,
     members: &Items<Value>,
-) -> Result<Option<(ColumnType, Items<Value>)>, Refusal>
+) -> Result<Option<(ColumnType, Items<Value>)>, AllocError>
     ensures ok { IfOk result (λ found. found ≡ first_of (members_with keys operand.now members.now)) }
-    ensures err { IfErr result (λ e. e ≡ Refusal.OutOfMemory) }
 {
     match operand {
         Operand::Column(ordinal) => copy_members_where(alloc, kind_in(keys, *ordinal), members),
@@ -164,9 +158,8 @@ pub fn first_among(
     alloc: Global,
     keys: Keys,
     condition: &Condition<usize>,
-) -> Result<Option<(ColumnType, Items<Value>)>, Refusal>
+) -> Result<Option<(ColumnType, Items<Value>)>, AllocError>
     ensures ok { IfOk result (λ found. found ≡ first_of (among keys condition.now)) }
-    ensures err { IfErr result (λ e. e ≡ Refusal.OutOfMemory) }
 {
     match condition {
         Condition::In(operand, members) => members_with(alloc, keys, operand, members),
@@ -180,9 +173,8 @@ fn first_among_of(
     alloc: Global,
     keys: Keys,
     members: &[Condition<usize>],
-) -> Result<Option<(ColumnType, Items<Value>)>, Refusal>
+) -> Result<Option<(ColumnType, Items<Value>)>, AllocError>
     ensures ok { IfOk result (λ found. found ≡ first_of (flat_map (λ l. l) (map (among keys) members.now))) }
-    ensures err { IfErr result (λ e. e ≡ Refusal.OutOfMemory) }
 {
     for member in members {
         let found = first_among(alloc, keys, member)?;

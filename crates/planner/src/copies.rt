@@ -1,14 +1,13 @@
 //! Copies of the parts of a query.
-ghost use Rattle.std.specs.Prelude.{◌≡◌, IfOk, IfErr};
+ghost use Rattle.std.specs.Prelude.{◌≡◌, IfOk};
 
 use sql_eval::copy_item;
 use sql_tree::{Condition, Item, Key, Operand};
-use std::alloc::Global;
-use vt_value::{Boxed, Items, Refusal, copy, copy_row};
+use std::alloc::{AllocError, Global};
+use vt_value::{Boxed, Items, copy, copy_row};
 
-pub fn copy_operand(alloc: Global, operand: &Operand<usize>) -> Result<Operand<usize>, Refusal>
+pub fn copy_operand(alloc: Global, operand: &Operand<usize>) -> Result<Operand<usize>, AllocError>
     ensures ok { IfOk result (λ o. o ≡ operand.now) }
-    ensures err { IfErr result (λ e. e ≡ Refusal.OutOfMemory) }
 {
     match operand {
         Operand::Column(ordinal) => Ok(Operand::Column(*ordinal)),
@@ -23,10 +22,9 @@ fn copy_operands(
     alloc: Global,
     a: &Operand<usize>,
     b: &Operand<usize>,
-) -> Result<(Operand<usize>, Operand<usize>), Refusal>
+) -> Result<(Operand<usize>, Operand<usize>), AllocError>
     ensures left { IfOk result (λ o. o.0 ≡ a.now) }
     ensures right { IfOk result (λ o. o.1 ≡ b.now) }
-    ensures err { IfErr result (λ e. e ≡ Refusal.OutOfMemory) }
 {
     let a = copy_operand(alloc, a)?;
     let b = copy_operand(alloc, b)?;
@@ -37,9 +35,8 @@ fn copy_operands(
 pub fn copy_condition(
     alloc: Global,
     condition: &Condition<usize>,
-) -> Result<Condition<usize>, Refusal>
+) -> Result<Condition<usize>, AllocError>
     ensures ok { IfOk result (λ c. c ≡ condition.now) }
-    ensures err { IfErr result (λ e. e ≡ Refusal.OutOfMemory) }
 {
     match condition {
         Condition::Compare(op, a, b) => {
@@ -74,9 +71,8 @@ pub fn copy_condition(
 fn copy_members(
     alloc: Global,
     members: &[Condition<usize>],
-) -> Result<Items<Condition<usize>>, Refusal>
+) -> Result<Items<Condition<usize>>, AllocError>
     ensures ok { IfOk result (λ list. list ≡ members.now) }
-    ensures err { IfErr result (λ e. e ≡ Refusal.OutOfMemory) }
 {
     let mut copied = Items::from_vec(Vec::with_capacity(alloc, members.len())?);
     for member in members {
@@ -86,9 +82,8 @@ fn copy_members(
     Ok(copied)
 }
 
-pub fn copy_items(alloc: Global, items: &[Item<usize>]) -> Result<Items<Item<usize>>, Refusal>
+pub fn copy_items(alloc: Global, items: &[Item<usize>]) -> Result<Items<Item<usize>>, AllocError>
     ensures ok { IfOk result (λ list. list ≡ items.now) }
-    ensures err { IfErr result (λ e. e ≡ Refusal.OutOfMemory) }
 {
     let mut copied = Items::from_vec(Vec::with_capacity(alloc, items.len())?);
     for item in items {
@@ -97,9 +92,8 @@ pub fn copy_items(alloc: Global, items: &[Item<usize>]) -> Result<Items<Item<usi
     Ok(copied)
 }
 
-pub fn copy_keys(alloc: Global, keys: &[Key<usize>]) -> Result<Items<Key<usize>>, Refusal>
+pub fn copy_keys(alloc: Global, keys: &[Key<usize>]) -> Result<Items<Key<usize>>, AllocError>
     ensures ok { IfOk result (λ list. list ≡ keys.now) }
-    ensures err { IfErr result (λ e. e ≡ Refusal.OutOfMemory) }
 {
     let mut copied = Items::from_vec(Vec::with_capacity(alloc, keys.len())?);
     for key in keys {
@@ -111,9 +105,8 @@ pub fn copy_keys(alloc: Global, keys: &[Key<usize>]) -> Result<Items<Key<usize>>
     Ok(copied)
 }
 
-pub fn copy_ordinals(alloc: Global, ordinals: &[usize]) -> Result<Items<usize>, Refusal>
+pub fn copy_ordinals(alloc: Global, ordinals: &[usize]) -> Result<Items<usize>, AllocError>
     ensures ok { IfOk result (λ list. list ≡ ordinals.now) }
-    ensures err { IfErr result (λ e. e ≡ Refusal.OutOfMemory) }
 {
     let mut copied = Items::from_vec(Vec::with_capacity(alloc, ordinals.len())?);
     for ordinal in ordinals {

@@ -1,5 +1,5 @@
 //! The finish of a query, over the rows that its pieces gave.
-ghost use Rattle.std.specs.Prelude.{◌≡◌, All, None, IsSorted, IsTrue, IfOk, IfErr, map, flat_map};
+ghost use Rattle.std.specs.Prelude.{◌≡◌, All, None, IsSorted, IsTrue, IfOk, map, flat_map};
 ghost use Rattle.operators.specs.Orders.{row_cmp};
 ghost use Rattle.operators.specs.Slices.{sliced, columns_of};
 ghost use Rattle.planner.specs.Plans.{joined_by, CanJoin, Finishes};
@@ -8,8 +8,8 @@ use crate::copies::copy_ordinals;
 use crate::plans::Finish;
 use operators::{Concat, Limit, MergeSort, Operator, Project, Rows, collect, shows_whole};
 use sql_eval::show;
-use std::alloc::Global;
-use vt_value::{Items, Refusal, Row};
+use std::alloc::{AllocError, Global};
+use vt_value::{Items, Row};
 
 /// What `limit` leaves of the rows, each by the columns at these ordinals. No row after these is pulled.
 fn slice<O: Operator>(
@@ -17,9 +17,8 @@ fn slice<O: Operator>(
     rows: O,
     limit: Option<sql_tree::LimitClause>,
     ordinals: Items<usize>,
-) -> Result<Items<Row>, Refusal>
+) -> Result<Items<Row>, AllocError>
     ensures ok { IfOk result (λ list. list ≡ map (columns_of ordinals) (sliced limit (O.to_come rows))) }
-    ensures err { IfErr result (λ e. e ≡ Refusal.OutOfMemory) }
 {
     let mut shown = Project::new(Limit::new(rows, limit), ordinals);
     collect(alloc, &mut shown)
@@ -28,10 +27,13 @@ fn slice<O: Operator>(
 impl Finish {
     /// The rows of the answer, from those of the pieces: joined to groups if the query is aggregated, sorted by the keys, sliced and cut
     /// to the answer's columns. Without groups and keys no more rows are pulled than the limit asks for. Refuses only for want of memory.
-    pub fn answer<O: Operator>(&self, alloc: Global, pieces: Vec<O>) -> Result<Items<Row>, Refusal>
+    pub fn answer<O: Operator>(
+        &self,
+        alloc: Global,
+        pieces: Vec<O>,
+    ) -> Result<Items<Row>, AllocError>
         requires fit { CanJoin self.now.grouping (flat_map O.to_come pieces.items) }
         ensures ok { IfOk result (Finishes self.now (flat_map O.to_come pieces.items)) }
-        ensures err { IfErr result (λ e. e ≡ Refusal.OutOfMemory) }
     {
         let columns = copy_ordinals(alloc, self.columns.as_slice())?;
         let pieces = Concat::new(pieces);
@@ -48,11 +50,10 @@ impl Finish {
         &self,
         alloc: Global,
         pieces: Vec<O>,
-    ) -> Result<Items<Row>, Refusal>
+    ) -> Result<Items<Row>, AllocError>
         requires fit { CanJoin self.now.grouping (flat_map O.to_come pieces.items) }
         requires order { self.now.grouping ≡ None → All (λ piece. IsSorted (row_cmp self.now.order_by) (O.to_come piece)) pieces.items }
         ensures ok { IfOk result (Finishes self.now (flat_map O.to_come pieces.items)) }
-        ensures err { IfErr result (λ e. e ≡ Refusal.OutOfMemory) }
     {
         if self.grouping.is_some() || self.order_by.is_empty() {
             return self.answer(alloc, pieces);
@@ -79,11 +80,10 @@ impl Finish {
     }
 
     /// What `answer_in_order` gives of one piece with these rows. One row that is shown as it is isn't copied. Refuses only for want of memory.
-    pub fn answer_alone(&self, alloc: Global, rows: Items<Row>) -> Result<Items<Row>, Refusal>
+    pub fn answer_alone(&self, alloc: Global, rows: Items<Row>) -> Result<Items<Row>, AllocError>
         requires fit { CanJoin self.now.grouping rows }
         requires order { self.now.grouping ≡ None → IsSorted (row_cmp self.now.order_by) rows }
         ensures ok { IfOk result (Finishes self.now rows) }
-        ensures err { IfErr result (λ e. e ≡ Refusal.OutOfMemory) }
     {
         if self.shows_as_they_are(rows.as_slice()) {
             return Ok(rows);
@@ -94,10 +94,9 @@ impl Finish {
     }
 
     /// The rows of the pieces, or their groups.
-    fn joined<O: Operator>(&self, alloc: Global, pieces: O) -> Result<Items<Row>, Refusal>
+    fn joined<O: Operator>(&self, alloc: Global, pieces: O) -> Result<Items<Row>, AllocError>
         requires { CanJoin self.now.grouping (O.to_come pieces) }
         ensures ok { IfOk result (λ rows. rows ≡ joined_by self.now.grouping (O.to_come pieces)) }
-        ensures err { IfErr result (λ e. e ≡ Refusal.OutOfMemory) }
     {
         match &self.grouping {
             Some(grouping) => grouping.joined(alloc, pieces),

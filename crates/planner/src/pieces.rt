@@ -1,5 +1,5 @@
 //! The query that each shard answers: under IN the members are cut to the shard's own.
-ghost use Rattle.std.specs.Prelude.{◌≡◌, ◌&&◌, IsTrue, IfSome, IfOk, IfErr, List, map, filter, is_some, Some, if◌then◌else◌};
+ghost use Rattle.std.specs.Prelude.{◌≡◌, ◌&&◌, IsTrue, IfSome, IfOk, List, map, filter, is_some, Some, if◌then◌else◌};
 ghost use Rattle.std.specs.List.{list_any};
 ghost use Rattle.vt_value.specs.declared.value.Value.{Value as V};
 ghost use Rattle.keyrange.specs.Ranges.{has_id};
@@ -16,9 +16,9 @@ use crate::routes::{Route, is_held};
 use crate::taking::{has_member, has_value};
 use keyrange::KeyRange;
 use sql_tree::{Condition, Operand};
-use std::alloc::Global;
+use std::alloc::{AllocError, Global};
 use vschema::{ColumnType, Join, Query, Table};
-use vt_value::{Items, Refusal, Value, copy, copy_row};
+use vt_value::{Items, Value, copy, copy_row};
 
 fn is_key(keys: Keys, operand: &Operand<usize>) -> bool
     ensures { (members : List V) → result ≡ is_some (first_of (members_with keys operand.now members)) }
@@ -106,9 +106,8 @@ fn own_members(
     home: &Home,
     kind: ColumnType,
     members: &[Value],
-) -> Result<Items<Value>, Refusal>
+) -> Result<Items<Value>, AllocError>
     ensures ok { IfOk result (λ list. list ≡ filter (is_member_of home.now.table.now home.now.range.now kind) members.now) }
-    ensures err { IfErr result (λ e. e ≡ Refusal.OutOfMemory) }
 {
     let mut list = Items::new(alloc);
     let mut at = 0;
@@ -129,9 +128,8 @@ fn cut_members_of(
     home: &Home,
     kind: Option<ColumnType>,
     members: &Items<Value>,
-) -> Result<Items<Value>, Refusal>
+) -> Result<Items<Value>, AllocError>
     ensures ok { IfOk result (λ list. list ≡ cut_members kind (is_member_of home.now.table.now home.now.range.now) members.now) }
-    ensures err { IfErr result (λ e. e ≡ Refusal.OutOfMemory) }
 {
     match kind {
         Some(kind) => own_members(alloc, home, kind, members.as_slice()),
@@ -144,9 +142,8 @@ fn cut_in(
     home: &Home,
     operand: &Operand<usize>,
     members: &Items<Value>,
-) -> Result<Condition<usize>, Refusal>
+) -> Result<Condition<usize>, AllocError>
     ensures ok { IfOk result (λ c. c ≡ cut_in home.now.keys (is_member_of home.now.table.now home.now.range.now) operand.now members.now) }
-    ensures err { IfErr result (λ e. e ≡ Refusal.OutOfMemory) }
 {
     let members = match operand {
         Operand::Column(ordinal) => {
@@ -163,9 +160,8 @@ fn cut_condition(
     alloc: Global,
     home: &Home,
     condition: &Condition<usize>,
-) -> Result<Condition<usize>, Refusal>
+) -> Result<Condition<usize>, AllocError>
     ensures ok { IfOk result (λ c. c ≡ cut_of home.now.keys (is_member_of home.now.table.now home.now.range.now) condition.now) }
-    ensures err { IfErr result (λ e. e ≡ Refusal.OutOfMemory) }
 {
     match condition {
         Condition::In(operand, members) => cut_in(alloc, home, operand, members),
@@ -183,11 +179,10 @@ fn cut_member(
     home: &Home,
     member: &Condition<usize>,
     is_next: bool,
-) -> Result<Condition<usize>, Refusal>
+) -> Result<Condition<usize>, AllocError>
     ensures ok { IfOk result (λ c. c ≡ if is_next
         then cut_of home.now.keys (is_member_of home.now.table.now home.now.range.now) member.now
         else member.now) }
-    ensures err { IfErr result (λ e. e ≡ Refusal.OutOfMemory) }
 {
     if is_next {
         cut_condition(alloc, home, member)
@@ -202,10 +197,9 @@ fn cut_members(
     alloc: Global,
     home: &Home,
     members: &[Condition<usize>],
-) -> Result<Items<Condition<usize>>, Refusal>
+) -> Result<Items<Condition<usize>>, AllocError>
     ensures ok { IfOk result (λ list. list ≡ first_cut home.now.keys
         (map (cut_by home.now.keys (is_member_of home.now.table.now home.now.range.now)) members.now)) }
-    ensures err { IfErr result (λ e. e ≡ Refusal.OutOfMemory) }
 {
     let mut list = Items::new(alloc);
     let mut is_cut = false;
@@ -225,9 +219,8 @@ fn shard_condition(
     route: &Route,
     range: &KeyRange,
     condition: &Condition<usize>,
-) -> Result<Condition<usize>, Refusal>
+) -> Result<Condition<usize>, AllocError>
     ensures ok { IfOk result (λ c. Some c ≡ shard_filter table.now join route.now range.now (Some condition.now)) }
-    ensures err { IfErr result (λ e. e ≡ Refusal.OutOfMemory) }
 {
     match (route, table.vindex) {
         (Route::In(values), Some(vindex)) => {
@@ -267,9 +260,8 @@ impl Plan {
         alloc: Global,
         table: &Table,
         range: &KeyRange,
-    ) -> Result<Query, Refusal>
+    ) -> Result<Query, AllocError>
         ensures ok { IfOk result (λ piece. piece ≡ piece_of table.now self.now range.now) }
-        ensures err { IfErr result (λ e. e ≡ Refusal.OutOfMemory) }
     {
         let items = copy_items(alloc, self.piece.items.as_slice())?;
         let qualified = Items::from_slice(alloc, self.piece.qualified.as_slice())?;

@@ -1,5 +1,5 @@
 //! From a query to its plan.
-ghost use Rattle.std.specs.Prelude.{◌≡◌, ◌++◌, IfOk, IfErr, OnOk, map, length};
+ghost use Rattle.std.specs.Prelude.{◌≡◌, ◌++◌, IfOk, OnOk, map, length};
 ghost use Rattle.sql_tree.specs.declared.Item.TheVariants as item;
 ghost use Rattle.vschema.specs.Resolved.{ordinals_from};
 ghost use Rattle.planner.specs.Routes.{table_at, route_of};
@@ -11,9 +11,9 @@ use crate::plans::{Finish, Plan};
 use crate::routes::{Route, route_of};
 use sql_eval::{Grouping, copy_item, group_columns, group_order};
 use sql_tree::{Item, Key, LimitClause};
-use std::alloc::Global;
+use std::alloc::{AllocError, Global};
 use vschema::{Query, VSchema};
-use vt_value::{Items, Refusal};
+use vt_value::Items;
 
 // As many rows as the whole answer may need from one shard.
 fn pushed_limit(limit: LimitClause) -> LimitClause
@@ -25,9 +25,8 @@ fn pushed_limit(limit: LimitClause) -> LimitClause
     }
 }
 
-fn push_keys(items: &mut Items<Item<usize>>, keys: &[Key<usize>]) -> Result<(), Refusal>
+fn push_keys(items: &mut Items<Item<usize>>, keys: &[Key<usize>]) -> Result<(), AllocError>
     ensures ok { OnOk result (items.new ≡ items.old ++ map key_item keys.now) }
-    ensures err { IfErr result (λ e. e ≡ Refusal.OutOfMemory) }
 {
     for key in keys {
         items.push(Item::Column(key.column))?;
@@ -36,9 +35,8 @@ fn push_keys(items: &mut Items<Item<usize>>, keys: &[Key<usize>]) -> Result<(), 
 }
 
 // Makes a query that isn't aggregated what each shard gets.
-fn push_rows(query: &mut Query) -> Result<(), Refusal>
+fn push_rows(query: &mut Query) -> Result<(), AllocError>
     ensures ok { OnOk result (query.new ≡ pushed_rows query.old) }
-    ensures err { IfErr result (λ e. e ≡ Refusal.OutOfMemory) }
 {
     push_keys(&mut query.items, query.order_by.as_slice())?;
     if let Some(limit) = query.limit {
@@ -47,9 +45,8 @@ fn push_rows(query: &mut Query) -> Result<(), Refusal>
     Ok(())
 }
 
-fn column_items(alloc: Global, columns: &[usize]) -> Result<Items<Item<usize>>, Refusal>
+fn column_items(alloc: Global, columns: &[usize]) -> Result<Items<Item<usize>>, AllocError>
     ensures ok { IfOk result (λ items. items ≡ map item.Column columns.now) }
-    ensures err { IfErr result (λ e. e ≡ Refusal.OutOfMemory) }
 {
     let mut items = Items::new(alloc);
     for column in columns {
@@ -63,9 +60,8 @@ fn group_items(
     alloc: Global,
     columns: &[usize],
     aggregates: &[Item<usize>],
-) -> Result<Items<Item<usize>>, Refusal>
+) -> Result<Items<Item<usize>>, AllocError>
     ensures ok { IfOk result (λ items. items ≡ map item.Column columns.now ++ aggregates.now) }
-    ensures err { IfErr result (λ e. e ≡ Refusal.OutOfMemory) }
 {
     let mut items = column_items(alloc, columns)?;
     for aggregate in aggregates {
@@ -75,9 +71,8 @@ fn group_items(
 }
 
 // What a shard shows of each of its groups.
-fn pushed_items(alloc: Global, query: &Query) -> Result<Items<Item<usize>>, Refusal>
+fn pushed_items(alloc: Global, query: &Query) -> Result<Items<Item<usize>>, AllocError>
     ensures ok { IfOk result (λ items. items ≡ (pushed_groups query.now).items) }
-    ensures err { IfErr result (λ e. e ≡ Refusal.OutOfMemory) }
 {
     let Grouping { aggregates, .. } = Grouping::of(alloc, query)?;
     let columns = query.group_by.as_slice();
@@ -85,9 +80,8 @@ fn pushed_items(alloc: Global, query: &Query) -> Result<Items<Item<usize>>, Refu
 }
 
 // Makes an aggregated query what each shard gets.
-fn push_groups(alloc: Global, query: &mut Query) -> Result<(), Refusal>
+fn push_groups(alloc: Global, query: &mut Query) -> Result<(), AllocError>
     ensures ok { OnOk result (query.new ≡ pushed_groups query.old) }
-    ensures err { IfErr result (λ e. e ≡ Refusal.OutOfMemory) }
 {
     query.items = pushed_items(alloc, query)?;
     query.order_by = Items::new(alloc);
@@ -96,9 +90,8 @@ fn push_groups(alloc: Global, query: &mut Query) -> Result<(), Refusal>
 }
 
 // Makes a query what each shard gets.
-fn push(alloc: Global, query: &mut Query) -> Result<(), Refusal>
+fn push(alloc: Global, query: &mut Query) -> Result<(), AllocError>
     ensures ok { OnOk result (query.new ≡ pushed query.old) }
-    ensures err { IfErr result (λ e. e ≡ Refusal.OutOfMemory) }
 {
     if query.is_aggregated() {
         push_groups(alloc, query)
@@ -107,9 +100,8 @@ fn push(alloc: Global, query: &mut Query) -> Result<(), Refusal>
     }
 }
 
-fn first_ordinals(alloc: Global, items: &[Item<usize>]) -> Result<Items<usize>, Refusal>
+fn first_ordinals(alloc: Global, items: &[Item<usize>]) -> Result<Items<usize>, AllocError>
     ensures ok { IfOk result (λ ordinals. ordinals ≡ ordinals_from 0 items.now) }
-    ensures err { IfErr result (λ e. e ≡ Refusal.OutOfMemory) }
 {
     let mut ordinals = Items::from_vec(Vec::with_capacity(alloc, items.len())?);
     for (ordinal, _) in items.iter().enumerate() {
@@ -123,9 +115,8 @@ fn keys_after(
     alloc: Global,
     items: &[Item<usize>],
     keys: &[Key<usize>],
-) -> Result<Items<Key<usize>>, Refusal>
+) -> Result<Items<Key<usize>>, AllocError>
     ensures ok { IfOk result (λ moved. moved ≡ keys_from (length items.now) keys.now) }
-    ensures err { IfErr result (λ e. e ≡ Refusal.OutOfMemory) }
 {
     let mut moved = Items::new(alloc);
     for (ordinal, key) in keys.iter().enumerate() {
@@ -137,9 +128,8 @@ fn keys_after(
     Ok(moved)
 }
 
-fn rows_finish(alloc: Global, query: &Query) -> Result<Finish, Refusal>
+fn rows_finish(alloc: Global, query: &Query) -> Result<Finish, AllocError>
     ensures ok { IfOk result (λ finish. finish ≡ rows_finish query.now) }
-    ensures err { IfErr result (λ e. e ≡ Refusal.OutOfMemory) }
 {
     let items = query.items.as_slice();
     let columns = first_ordinals(alloc, items)?;
@@ -152,9 +142,8 @@ fn rows_finish(alloc: Global, query: &Query) -> Result<Finish, Refusal>
     })
 }
 
-fn groups_finish(alloc: Global, query: &Query) -> Result<Finish, Refusal>
+fn groups_finish(alloc: Global, query: &Query) -> Result<Finish, AllocError>
     ensures ok { IfOk result (λ finish. finish ≡ groups_finish query.now) }
-    ensures err { IfErr result (λ e. e ≡ Refusal.OutOfMemory) }
 {
     let grouping = Grouping::of(alloc, query)?;
     let columns = group_columns(alloc, query)?;
@@ -167,9 +156,8 @@ fn groups_finish(alloc: Global, query: &Query) -> Result<Finish, Refusal>
     })
 }
 
-fn finish_of(alloc: Global, query: &Query) -> Result<Finish, Refusal>
+fn finish_of(alloc: Global, query: &Query) -> Result<Finish, AllocError>
     ensures ok { IfOk result (λ finish. finish ≡ finish_of query.now) }
-    ensures err { IfErr result (λ e. e ≡ Refusal.OutOfMemory) }
 {
     if query.is_aggregated() {
         groups_finish(alloc, query)
@@ -179,9 +167,8 @@ fn finish_of(alloc: Global, query: &Query) -> Result<Finish, Refusal>
 }
 
 /// The route of a query. Refuses only for want of memory.
-pub fn query_route(alloc: Global, schema: &VSchema, query: &Query) -> Result<Route, Refusal>
+pub fn query_route(alloc: Global, schema: &VSchema, query: &Query) -> Result<Route, AllocError>
     ensures ok { IfOk result (λ route. route ≡ route_of (table_at schema.now query.now.table) query.now.join query.now.filter) }
-    ensures err { IfErr result (λ e. e ≡ Refusal.OutOfMemory) }
 {
     match schema.tables.as_slice().get(query.table) {
         Some(table) => route_of(alloc, table, query.join, &query.filter),
@@ -194,12 +181,11 @@ pub fn query_route(alloc: Global, schema: &VSchema, query: &Query) -> Result<Rou
 // of the ranges; a shard that its route skips holds no row or pair that the query keeps; and without aggregates each piece's answer is in
 // the order of the finish's keys
 /// The plan of a query. Refuses only for want of memory.
-pub fn plan(alloc: Global, schema: &VSchema, mut query: Query) -> Result<Plan, Refusal>
+pub fn plan(alloc: Global, schema: &VSchema, mut query: Query) -> Result<Plan, AllocError>
     ensures exact { IfOk result (λ p. p ≡ planned (table_at schema.now query.table) query) }
     ensures right { IfOk result (IsRightPlan schema.now query) }
     ensures skips { IfOk result (SkipsNothing schema.now query) }
     ensures order { IfOk result (GivesInOrder (table_at schema.now query.table)) }
-    ensures err { IfErr result (λ e. e ≡ Refusal.OutOfMemory) }
 {
     let route = query_route(alloc, schema, &query)?;
     let finish = finish_of(alloc, &query)?;

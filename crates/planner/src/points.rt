@@ -1,5 +1,5 @@
 //! Queries that need no plan: one shard is asked the query as it is, and what it gives is the answer.
-ghost use Rattle.std.specs.Prelude.{◌≡◌, ◌==◌, IsTrue, IfOk, IfErr, IfSome, None, [], false, length};
+ghost use Rattle.std.specs.Prelude.{◌≡◌, ◌==◌, IsTrue, IfOk, IfSome, None, [], false, length};
 ghost use Rattle.std.specs.List.{list_all};
 ghost use Rattle.vschema.specs.Checks.{is_aggregated};
 ghost use Rattle.planner.specs.Routes.{sharded_route, route_of};
@@ -10,9 +10,9 @@ use crate::conjuncts::{first_equal, is_never};
 use crate::keys::{Keys, keys_on};
 use crate::routes::{Route, is_held};
 use sql_tree::Condition;
-use std::alloc::Global;
+use std::alloc::{AllocError, Global};
 use vschema::{Query, Table};
-use vt_value::{Refusal, Row, Value};
+use vt_value::{Row, Value};
 
 /// Whether each shard is asked the query as it is: it has no aggregate, no GROUP BY, no ORDER BY and no LIMIT.
 pub fn is_plain(query: &Query) -> bool
@@ -29,9 +29,8 @@ fn point_value(
     alloc: Global,
     keys: Keys,
     condition: &Condition<usize>,
-) -> Result<Option<Value>, Refusal>
+) -> Result<Option<Value>, AllocError>
     ensures ok { IfOk result (λ found. IfSome found (λ value. Route.EqualUnique value ≡ sharded_route keys condition.now)) }
-    ensures err { IfErr result (λ e. e ≡ Refusal.OutOfMemory) }
 {
     if is_never(condition) {
         return Ok(None);
@@ -44,11 +43,10 @@ fn point_value(
 
 /// The route of a plain query, if it is that of one value: then the query needs that value's shard alone, which is asked it as it is. Refuses
 /// only for want of memory.
-pub fn point_route(alloc: Global, table: &Table, query: &Query) -> Result<Option<Route>, Refusal>
+pub fn point_route(alloc: Global, table: &Table, query: &Query) -> Result<Option<Route>, AllocError>
     requires { pushed query.now ≡ query.now }
     ensures ok { IfOk result (λ found. IfSome found (λ route. route ≡ route_of table.now query.now.join query.now.filter)) }
     ensures piece { IfOk result (λ found. IfSome found (λ route. (range : KeyRange) → piece_of table.now (planned table.now query.now) range ≡ query.now)) }
-    ensures err { IfErr result (λ e. e ≡ Refusal.OutOfMemory) }
 {
     let Some(vindex) = table.vindex else {
         return Ok(None);

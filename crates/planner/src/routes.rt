@@ -1,5 +1,5 @@
 //! Which shards of its keyspace a statement needs, by the values that its condition or its rows give for the vindex column.
-ghost use Rattle.std.specs.Prelude.{◌≡◌, IfOk, IfErr, filter, map, slice_get};
+ghost use Rattle.std.specs.Prelude.{◌≡◌, IfOk, filter, map, slice_get};
 ghost use Rattle.vt_value.specs.Values.{value_at};
 ghost use Rattle.planner.specs.Routes.{type_at, is_held, route_among, route_by, sharded_route, filter_route, route_of, insert_route, write_route};
 
@@ -8,12 +8,12 @@ use crate::keys::{Keys, keys_on};
 use crate::members::InValues;
 use crate::needed::NeededValues;
 use sql_tree::Condition;
-use std::alloc::Global;
+use std::alloc::{AllocError, Global};
 use vindex::AnyVindex;
 use vschema::{
     ColumnType, ColumnVindex, Join, Table, VSchema, Write, is_out_of_range, is_too_long,
 };
-use vt_value::{Refusal, Row, Value, copy};
+use vt_value::{Row, Value, copy};
 
 /// Which shards of its keyspace a statement needs.
 #[derive(Drop)]
@@ -53,9 +53,8 @@ fn held(
     vindex: AnyVindex,
     kind: ColumnType,
     values: &[Value],
-) -> Result<InValues, Refusal>
+) -> Result<InValues, AllocError>
     ensures ok { IfOk result (λ list. list ≡ filter (is_held kind) values.now) }
-    ensures err { IfErr result (λ e. e ≡ Refusal.OutOfMemory) }
 {
     let mut list = InValues::new(alloc);
     for value in values {
@@ -71,9 +70,8 @@ fn route_among(
     vindex: AnyVindex,
     kind: ColumnType,
     members: &[Value],
-) -> Result<Route, Refusal>
+) -> Result<Route, AllocError>
     ensures ok { IfOk result (λ route. route ≡ route_among (filter (is_held kind) members.now)) }
-    ensures err { IfErr result (λ e. e ≡ Refusal.OutOfMemory) }
 {
     let values = held(alloc, vindex, kind, members)?;
     if values.is_empty() {
@@ -88,9 +86,8 @@ fn sharded_route(
     vindex: AnyVindex,
     keys: Keys,
     condition: &Condition<usize>,
-) -> Result<Route, Refusal>
+) -> Result<Route, AllocError>
     ensures ok { IfOk result (λ route. route ≡ sharded_route keys condition.now) }
-    ensures err { IfErr result (λ e. e ≡ Refusal.OutOfMemory) }
 {
     if is_never(condition) {
         return Ok(Route::None);
@@ -113,9 +110,8 @@ pub fn route_of(
     table: &Table,
     join: Option<Join>,
     filter: &Option<Condition<usize>>,
-) -> Result<Route, Refusal>
+) -> Result<Route, AllocError>
     ensures ok { IfOk result (λ route. route ≡ route_of table.now join filter.now) }
-    ensures err { IfErr result (λ e. e ≡ Refusal.OutOfMemory) }
 {
     let Some(vindex) = table.vindex else {
         return Ok(Route::Unsharded);
@@ -129,9 +125,8 @@ pub fn route_of(
     }
 }
 
-fn value_at(alloc: Global, row: &Row, ordinal: usize) -> Result<Value, Refusal>
+fn value_at(alloc: Global, row: &Row, ordinal: usize) -> Result<Value, AllocError>
     ensures ok { IfOk result (λ v. v ≡ value_at row.now ordinal) }
-    ensures err { IfErr result (λ e. e ≡ Refusal.OutOfMemory) }
 {
     match row.as_slice().get(ordinal) {
         Some(value) => copy(alloc, value),
@@ -139,9 +134,8 @@ fn value_at(alloc: Global, row: &Row, ordinal: usize) -> Result<Value, Refusal>
     }
 }
 
-fn values_at(alloc: Global, rows: &[Row], vindex: ColumnVindex) -> Result<InValues, Refusal>
+fn values_at(alloc: Global, rows: &[Row], vindex: ColumnVindex) -> Result<InValues, AllocError>
     ensures ok { IfOk result (λ list. list ≡ map (λ row. value_at row vindex.column) rows.now) }
-    ensures err { IfErr result (λ e. e ≡ Refusal.OutOfMemory) }
 {
     let mut list = InValues::with_capacity(alloc, rows.len())?;
     for row in rows {
@@ -151,9 +145,12 @@ fn values_at(alloc: Global, rows: &[Row], vindex: ColumnVindex) -> Result<InValu
 }
 
 // The values of one row without an allocation.
-fn needed_values(alloc: Global, rows: &[Row], vindex: ColumnVindex) -> Result<NeededValues, Refusal>
+fn needed_values(
+    alloc: Global,
+    rows: &[Row],
+    vindex: ColumnVindex,
+) -> Result<NeededValues, AllocError>
     ensures ok { IfOk result (λ values. values ≡ map (λ row. value_at row vindex.column) rows.now) }
-    ensures err { IfErr result (λ e. e ≡ Refusal.OutOfMemory) }
 {
     if let [row] = rows {
         let value = value_at(alloc, row, vindex.column)?;
@@ -163,9 +160,8 @@ fn needed_values(alloc: Global, rows: &[Row], vindex: ColumnVindex) -> Result<Ne
     Ok(NeededValues::many(values))
 }
 
-fn insert_route(alloc: Global, table: &Table, rows: &[Row]) -> Result<Route, Refusal>
+fn insert_route(alloc: Global, table: &Table, rows: &[Row]) -> Result<Route, AllocError>
     ensures ok { IfOk result (λ route. route ≡ insert_route table.now rows.now) }
-    ensures err { IfErr result (λ e. e ≡ Refusal.OutOfMemory) }
 {
     match table.vindex {
         None => Ok(Route::Unsharded),
@@ -178,9 +174,8 @@ fn insert_route(alloc: Global, table: &Table, rows: &[Row]) -> Result<Route, Ref
 
 /// The route of a write. An INSERT goes to the shards of its rows, an UPDATE or a DELETE by its condition. A table that the
 /// VSchema doesn't have is unsharded. Refuses only for want of memory.
-pub fn write_route(alloc: Global, schema: &VSchema, write: &Write) -> Result<Route, Refusal>
+pub fn write_route(alloc: Global, schema: &VSchema, write: &Write) -> Result<Route, AllocError>
     ensures ok { IfOk result (λ route. route ≡ write_route schema.now write.now) }
-    ensures err { IfErr result (λ e. e ≡ Refusal.OutOfMemory) }
 {
     let (Write::Insert(ordinal, _) | Write::Update(ordinal, _, _) | Write::Delete(ordinal, _)) =
         write;

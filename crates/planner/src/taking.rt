@@ -1,4 +1,4 @@
-ghost use Rattle.std.specs.Prelude.{◌≡◌, ◌&&◌, [], List, IsTrue, false, Some, IfOk, IfErr, IfNone, IfSome};
+ghost use Rattle.std.specs.Prelude.{◌≡◌, ◌&&◌, [], List, IsTrue, false, Some, IfOk, IfNone, IfSome};
 ghost use Rattle.std.specs.List.{list_any};
 ghost use Rattle.keyrange.specs.declared.KeyRange.{KeyRange};
 ghost use Rattle.keyrange.specs.Ranges.{has_id};
@@ -13,10 +13,10 @@ use crate::needed::{Kept, NeededValues};
 use crate::routes::Route;
 use crate::spans::{Span, misses};
 use keyrange::KeyRange;
-use std::alloc::Global;
+use std::alloc::{AllocError, Global};
 use vindex::Ksid;
 use vschema::{ColumnVindex, Table};
-use vt_value::{Refusal, Value};
+use vt_value::Value;
 
 /// Whether the keyspace id of a value of the vindex column lies in the range.
 pub fn has_value(table: &Table, range: &KeyRange, value: &Value) -> bool
@@ -154,10 +154,9 @@ pub fn shards(
     table: &Table,
     route: &Route,
     ranges: &[KeyRange],
-) -> Result<Vec<usize>, Refusal>
+) -> Result<Vec<usize>, AllocError>
     ensures ok { IfOk result (λ ordinals. ordinals.items ≡ taken_ordinals table.now route.now ranges.now) }
     ensures unsharded { IfOk result (λ ordinals. route.now ≡ Route.Unsharded → ordinals.items ≡ []) }
-    ensures err { IfErr result (λ e. e ≡ Refusal.OutOfMemory) }
 {
     let mut ordinals = Vec::new(alloc);
     for (ordinal, range) in ranges.iter().enumerate() {

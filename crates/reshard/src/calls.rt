@@ -84,6 +84,7 @@ impl<W: World, J: Naming> Workflow<W, J> {
     /// those. Refuses if it has a workflow; if no source is named, one is named twice or isn't a range of the present partition, or
     /// its shard doesn't serve or is frozen; if two targets overlap; if they don't hold what the sources do; if too few slots are
     /// free; and for want of memory. Then it stays as it was, and no slot is taken.
+    /// VSchema and serving are the engine's, which lends them for the call.
     pub fn create(
         &mut self,
         rt: &impl Wait,

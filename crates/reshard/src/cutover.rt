@@ -24,7 +24,7 @@ use reshard_cutover::{
 };
 use serving::Serving;
 use shard::{Shard, ShardPass, World};
-use std::alloc::Global;
+use std::alloc::{AllocError, Global};
 use std::sync::Wait;
 use vschema::VSchema;
 use vt_value::Refusal;
@@ -50,11 +50,10 @@ pub enum CutoverStep {
 
 impl<W: World, J: Naming> Workflow<W, J> {
     // Makes the memory of the cutover, unless it was made.
-    pub(crate) fn prepare(&mut self, alloc: Global) -> Result<(), Refusal>
+    pub(crate) fn prepare(&mut self, alloc: Global) -> Result<(), AllocError>
         requires begun { self.old.stage ≡ Stage.None → ⊥ }
         ensures now { OnOk result (self.new ≡ record self.old { prepared = true }) }
         ensures same { OnErr result (self.new ≡ self.old) }
-        ensures err { IfErr result (λ e. e ≡ Refusal.OutOfMemory) }
     {
         if self.prepared {
             return Ok(());

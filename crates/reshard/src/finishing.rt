@@ -55,6 +55,7 @@ impl<W: World, J: Naming> Workflow<W, J> {
     }
 
     // Takes all steps of a cutover that are left.
+    // VSchema, serving and buffer are the engine's, which lends them for the call.
     fn switch_all(
         &mut self,
         rt: &impl Wait,
@@ -90,6 +91,7 @@ impl<W: World, J: Naming> Workflow<W, J> {
     /// brings the targets forward, as `step` does, until all are level, or twice as many entries were followed as their sources had stored.
     /// Refuses if no targets follow, or a cutover has begun. For want of memory, and if a shard would have more rows or entries than it may, the cutover is given up, of which
     /// no source is retired: each source serves again, the statements that waited go on, and the targets follow.
+    /// VSchema, serving and buffer are the engine's, which lends them for the call.
     pub fn switch_traffic(
         &mut self,
         rt: &impl Wait,

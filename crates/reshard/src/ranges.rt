@@ -1,5 +1,5 @@
 //! Which ranges are served in the midst of a cutover.
-ghost use Rattle.std.specs.Prelude.{◌≡◌, ◌++◌, IfOk, IfErr, OnOk, drop, map, take};
+ghost use Rattle.std.specs.Prelude.{◌≡◌, ◌++◌, IfOk, OnOk, drop, map, take};
 ghost use Rattle.reshard.specs.Served.{AreServed};
 
 use crate::workflow::Workflow;
@@ -8,8 +8,7 @@ use keyrange::KeyRange;
 use reshard_create::next_ranges;
 use reshard_cutover::{SourceShard, TargetShard};
 use shard::World;
-use std::alloc::Global;
-use vt_value::Refusal;
+use std::alloc::{AllocError, Global};
 
 // The sources after the first so many.
 fn without_first<W: World, J: Naming>(
@@ -39,9 +38,8 @@ fn first<W: World, J: Naming>(targets: &[TargetShard<W, J>], n: usize) -> &[Targ
 fn ranges_of_sources<W: World, J: Naming>(
     alloc: Global,
     sources: &[SourceShard<W, J>],
-) -> Result<Vec<KeyRange>, Refusal>
+) -> Result<Vec<KeyRange>, AllocError>
     ensures ok { IfOk result (λ ranges. ranges.items ≡ map (λ s. s.member.which.place.range) sources.now) }
-    ensures err { IfErr result (λ e. e ≡ Refusal.OutOfMemory) }
 {
     let mut ranges = Vec::new(alloc);
     for source in sources {
@@ -53,9 +51,8 @@ fn ranges_of_sources<W: World, J: Naming>(
 fn put_targets<W: World, J: Naming>(
     ranges: &mut Vec<KeyRange>,
     targets: &[TargetShard<W, J>],
-) -> Result<(), Refusal>
+) -> Result<(), AllocError>
     ensures ok { OnOk result (ranges.new.items ≡ ranges.old.items ++ map (λ t. t.member.which.place.range) targets.now) }
-    ensures err { IfErr result (λ e. e ≡ Refusal.OutOfMemory) }
 {
     for target in targets {
         ranges.push(target.member.which.place.range)?;
@@ -67,9 +64,8 @@ fn ranges_of_both<W: World, J: Naming>(
     alloc: Global,
     sources: &[SourceShard<W, J>],
     targets: &[TargetShard<W, J>],
-) -> Result<Vec<KeyRange>, Refusal>
+) -> Result<Vec<KeyRange>, AllocError>
     ensures ok { IfOk result (λ ranges. ranges.items ≡ map (λ s. s.member.which.place.range) sources.now ++ map (λ t. t.member.which.place.range) targets.now) }
-    ensures err { IfErr result (λ e. e ≡ Refusal.OutOfMemory) }
 {
     let mut ranges = ranges_of_sources(alloc, sources)?;
     put_targets(&mut ranges, targets)?;
@@ -81,9 +77,8 @@ impl<W: World, J: Naming> Workflow<W, J> {
     // of the keyspace, of the sources that aren't retired, and of the targets that serve already
     /// The ranges of the shards that serve now, or are frozen: of the parts that the workflow leaves, of its sources that aren't retired, and
     /// of its targets that serve. Refuses for want of memory.
-    pub fn served_ranges(&self, alloc: Global) -> Result<Vec<KeyRange>, Refusal>
+    pub fn served_ranges(&self, alloc: Global) -> Result<Vec<KeyRange>, AllocError>
         ensures ok { IfOk result (λ ranges. AreServed self.now ranges.items) }
-        ensures err { IfErr result (λ e. e ≡ Refusal.OutOfMemory) }
     {
         let own = ranges_of_both(
             alloc,

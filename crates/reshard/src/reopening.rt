@@ -60,6 +60,7 @@ impl<W: World, J: Naming> Workflow<W, J> {
     /// the sources and the targets of one, with the other parts of the present partition, as a cutover leaves them; if a source that is
     /// retired didn't name a target that takes from it; if the sources' rows were dropped, or the workflow was given up; and for want of
     /// memory. Then it stays as it was. The slots that no shard was ever on are those that it has.
+    /// VSchema and serving are the engine's, which lends them for the call.
     pub fn reopen(
         &mut self,
         rt: &impl Wait,

@@ -94,6 +94,7 @@ impl<W: World, J: Naming> Workflow<W, J> {
     }
 
     // The next step of the cutover, if nothing is given up.
+    // VSchema, serving and buffer are the engine's, which lends them for the call.
     fn try_switch(
         &mut self,
         rt: &impl Wait,
@@ -151,6 +152,7 @@ impl<W: World, J: Naming> Workflow<W, J> {
     /// Refuses if no targets follow and no cutover has begun. For want of memory, and if a shard would have more rows or entries than
     /// it may, the cutover is given up, of which no source is retired: each source serves again, the statements that waited go on, and the
     /// targets follow.
+    /// VSchema, serving and buffer are the engine's, which lends them for the call.
     pub fn switch_step(
         &mut self,
         rt: &impl Wait,

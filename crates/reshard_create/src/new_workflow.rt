@@ -23,10 +23,9 @@ use keyrange::KeyRange;
 use reshard_cutover::{ReshardFault, SourceShard, TargetShard};
 use serving::{Partition, ShardReference};
 use shard::{Shard, ShardLaw, ShardPass, World};
-use std::alloc::Global;
+use std::alloc::{AllocError, Global};
 use std::sync::Wait;
 use vschema::VSchema;
-use vt_value::Refusal;
 
 /// A partition has at most so many parts.
 pub const MOST_PARTS: usize = 64;
@@ -40,10 +39,9 @@ pub struct NewWorkflow<W: World, J: Naming> {
 }
 
 // The ranges in the order of their begins.
-fn in_order(alloc: Global, ranges: &[KeyRange]) -> Result<Vec<KeyRange>, Refusal>
+fn in_order(alloc: Global, ranges: &[KeyRange]) -> Result<Vec<KeyRange>, AllocError>
     ensures ok { IfOk result (λ r. IsPermutation ranges.now r.items) }
     ensures rise { IfOk result (λ r. IsSorted begin_cmp r.items) }
-    ensures err { IfErr result (λ e. e ≡ Refusal.OutOfMemory) }
 {
     let mut ordered = Vec::from_slice(alloc, ranges)?;
     ordered.sort_unstable_by(|a, b| a.begin.as_slice().cmp(b.begin.as_slice()));
@@ -80,6 +78,7 @@ struct WorkflowSources<W: World, J: Naming> {
 }
 
 // The sources of these ranges, if targets of those may take their place, for which so many slots are free.
+// It is handed what `begin` takes.
 fn survey<W: World, J: Naming>(
     rt: &impl Wait,
     alloc: Global,
@@ -119,6 +118,7 @@ fn survey<W: World, J: Naming>(
 /// The sources of these ranges, and targets of those, on the last of the free slots. Refuses if no source is named, one is named twice or
 /// isn't a range of the partition, or its shard doesn't serve or is frozen; if two targets overlap; if they don't hold what the sources
 /// do; if too few slots are free; and for want of memory. Then no slot is taken.
+/// It is handed what `Workflow::create` takes, and the workflow's own slots.
 pub fn begin<W: World, J: Naming>(
     rt: &impl Wait,
     alloc: Global,

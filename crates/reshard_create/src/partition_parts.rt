@@ -1,5 +1,5 @@
 //! Which parts of a partition are named, and the ranges once targets replace them.
-ghost use Rattle.std.specs.Prelude.{◌≡◌, ◌++◌, ◌∷◌, [], ◌↔◌, IsTrue, not, true, IfOk, IfErr, OnOk, Contains, map, false};
+ghost use Rattle.std.specs.Prelude.{◌≡◌, ◌++◌, ◌∷◌, [], ◌↔◌, IsTrue, not, true, IfOk, OnOk, Contains, map, false};
 ghost use Rattle.reshard_create.specs.Choices.{DoNotOverlap};
 ghost use Rattle.reshard_create.specs.inner.Created.{AreNamed};
 ghost use Rattle.keyrange.specs.Ranges.{Overlap};
@@ -7,8 +7,7 @@ ghost use Rattle.std.specs.List.{AllByRecursion};
 
 use keyrange::KeyRange;
 use serving::{Seated, ShardReference, copy_part};
-use std::alloc::Global;
-use vt_value::Refusal;
+use std::alloc::{AllocError, Global};
 
 /// The parts of a partition whose ranges are named, and the others.
 #[derive(Drop)]
@@ -19,10 +18,9 @@ pub struct ChosenParts<S: Seated + Drop> {
 
 impl<S: Seated + Drop> ChosenParts<S> {
     // Adds a part to the ones or the others.
-    fn add(&mut self, part: ShardReference<S>, named: bool) -> Result<(), Refusal>
+    fn add(&mut self, part: ShardReference<S>, named: bool) -> Result<(), AllocError>
         ensures named { OnOk result (named ≡ true → (self.new.taken.items ≡ self.old.taken.items ++ part ∷ []) × (self.new.rest.items ≡ self.old.rest.items)) }
         ensures other { OnOk result (named ≡ false → (self.new.taken.items ≡ self.old.taken.items) × (self.new.rest.items ≡ self.old.rest.items ++ part ∷ [])) }
-        ensures err { IfErr result (λ e. e ≡ Refusal.OutOfMemory) }
     {
         if named {
             self.taken.push(part)?;
@@ -51,11 +49,10 @@ pub fn choose<S: Seated + Drop>(
     alloc: Global,
     parts: &[ShardReference<S>],
     ranges: &[KeyRange],
-) -> Result<ChosenParts<S>, Refusal>
+) -> Result<ChosenParts<S>, AllocError>
     ensures ok { IfOk result (λ c. AreNamed ranges.now parts.now c.taken.items c.rest.items) }
     ensures taken { IfOk result (λ c. AllByRecursion (Contains parts.now) c.taken.items) }
     ensures rest { IfOk result (λ c. AllByRecursion (Contains parts.now) c.rest.items) }
-    ensures err { IfErr result (λ e. e ≡ Refusal.OutOfMemory) }
 {
     let mut chosen = ChosenParts {
         taken: Vec::new(alloc),
@@ -92,9 +89,8 @@ pub fn next_ranges<S: Seated + Drop>(
     alloc: Global,
     parts: &[ShardReference<S>],
     targets: &[KeyRange],
-) -> Result<Vec<KeyRange>, Refusal>
+) -> Result<Vec<KeyRange>, AllocError>
     ensures ok { IfOk result (λ r. r.items ≡ map (λ p. p.1) parts.now ++ targets.now) }
-    ensures err { IfErr result (λ e. e ≡ Refusal.OutOfMemory) }
 {
     let mut ranges = Vec::new(alloc);
     for part in parts {

@@ -18,7 +18,7 @@ use keyrange::{KeyRange, covers_once};
 use reshard_cutover::{ReshardFault, SourceShard};
 use serving::ShardReference;
 use shard::{Shard, ShardPass, World};
-use std::alloc::Global;
+use std::alloc::{AllocError, Global};
 use std::sync::Wait;
 use vt_value::Refusal;
 
@@ -29,7 +29,7 @@ pub(crate) fn sources_of<W: World, J: Naming>(
     pass: &mut ShardPass<W, J>,
     keyspace: usize,
     parts: &[ShardReference<Shard<W, J>>],
-) -> Result<Option<Vec<SourceShard<W, J>>>, Refusal>
+) -> Result<Option<Vec<SourceShard<W, J>>>, AllocError>
     requires legal { IsLegal (MayFollow W.opening) pass.old.seen }
     requires home { AreOf keyspace parts.now }
     ensures found { IfOk result (λ r. MatchOption r ((seat : Seat) × Contains parts.now seat × HasSeen W.opening pass.old pass.new keyspace IsAway seat)
@@ -37,7 +37,6 @@ pub(crate) fn sources_of<W: World, J: Naming>(
         × AllByRecursion (λ s. s.member.which.place.keyspace ≡ keyspace) sources.items)) }
     ensures served { IfOk result (λ r. IfSome r (λ sources. AllByRecursion (λ s. WasSeen W.opening pass.old pass.new IsServing s.member.which) sources.items)) }
     ensures onward { IsOnward W.opening pass.old pass.new }
-    ensures err { IfErr result (λ e. e ≡ Refusal.OutOfMemory) }
 {
     let mut sources = Vec::new(alloc);
     for part in parts {
@@ -72,6 +71,7 @@ pub(crate) fn test_targets<W: World, J: Naming>(
 }
 
 // The sources of these ranges, if targets of those may take their place.
+// It is handed what `begin` takes, and the parts that were chosen.
 pub(crate) fn find_sources<W: World, J: Naming>(
     rt: &impl Wait,
     alloc: Global,

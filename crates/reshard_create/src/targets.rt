@@ -25,10 +25,10 @@ use serving::ShardReference;
 use shard::{Limits, Shard, ShardLaw, ShardPass, ShardState, Store, World};
 use shard_contents::copy_shard;
 use shard_run::Mode;
-use std::alloc::Global;
+use std::alloc::{AllocError, Global};
 use std::sync::{Arc, Wait};
 use vschema::{Place, VSchema};
-use vt_value::{Items, Refusal};
+use vt_value::Items;
 
 // What a look at the shard of a slot and place shows: it serves; or it is frozen or retired; or it is another, or follows.
 #[derive(Drop)]
@@ -42,10 +42,9 @@ enum SourceState {
 pub fn copy_member<W: World, J: Naming>(
     alloc: Global,
     member: &WorkflowShard<W, J>,
-) -> Result<WorkflowShard<W, J>, Refusal>
+) -> Result<WorkflowShard<W, J>, AllocError>
     ensures ok { IfOk result (λ copy. copy.which ≡ member.now.which) }
     ensures shard { IfOk result (λ copy. copy.shard.value ≡ member.now.shard.value) }
-    ensures err { IfErr result (λ e. e ≡ Refusal.OutOfMemory) }
 {
     let shard = Arc::try_clone(&member.shard)?;
     let which = copy_shard(alloc, &member.which)?;
@@ -59,11 +58,10 @@ fn try_source<W: World, J: Naming>(
     pass: &mut ShardPass<W, J>,
     slot: usize,
     place: &Place,
-) -> Result<SourceState, Refusal>
+) -> Result<SourceState, AllocError>
     requires legal { IsLegal (MayFollow W.opening) pass.old.seen }
     ensures source_state { IfOk result (IsSourceState W.opening pass.new.seen slot place.now) }
     ensures onward { IsOnward W.opening pass.old pass.new }
-    ensures err { IfErr result (λ e. e ≡ Refusal.OutOfMemory) }
 {
     if !stands(state, pass, slot, place) {
         return Ok(SourceState::Another);
@@ -83,11 +81,10 @@ fn look_once<W: World, J: Naming>(
     part: &ShardReference<Shard<W, J>>,
     slot: usize,
     place: &Place,
-) -> Result<SourceState, Refusal>
+) -> Result<SourceState, AllocError>
     requires legal { IsLegal (MayFollow W.opening) pass.old.seen }
     ensures source_state { IfOk result (IsSourceState W.opening pass.new.seen slot place.now) }
     ensures onward { IsOnward W.opening pass.old pass.new }
-    ensures err { IfErr result (λ e. e ≡ Refusal.OutOfMemory) }
 {
     try_source(&mut part.shard().lock(rt), alloc, pass, slot, place)
 }
@@ -95,9 +92,8 @@ fn look_once<W: World, J: Naming>(
 fn member_of<W: World, J: Naming>(
     part: &ShardReference<Shard<W, J>>,
     which: shard_run::ShardRecord,
-) -> Result<WorkflowShard<W, J>, Refusal>
+) -> Result<WorkflowShard<W, J>, AllocError>
     ensures ok { IfOk result (λ m. m.which ≡ which) }
-    ensures err { IfErr result (λ e. e ≡ Refusal.OutOfMemory) }
 {
     let shard = Arc::try_clone(part.shard())?;
     Ok(WorkflowShard { which, shard })
@@ -110,12 +106,11 @@ pub(crate) fn source_of<W: World, J: Naming>(
     pass: &mut ShardPass<W, J>,
     keyspace: usize,
     part: &ShardReference<Shard<W, J>>,
-) -> Result<Option<WorkflowShard<W, J>>, Refusal>
+) -> Result<Option<WorkflowShard<W, J>>, AllocError>
     requires legal { IsLegal (MayFollow W.opening) pass.old.seen }
     ensures found { IfOk result (λ r. MatchOption r (HasSeen W.opening pass.old pass.new keyspace IsAway part.now)
         (λ m. IsSeenAt W.opening pass.old pass.new keyspace IsServing part.now m.which)) }
     ensures onward { IsOnward W.opening pass.old pass.new }
-    ensures err { IfErr result (λ e. e ≡ Refusal.OutOfMemory) }
 {
     let place = Place {
         keyspace,
@@ -143,10 +138,9 @@ pub struct TargetSources<W: World, J: Naming> {
 }
 
 impl<W: World, J: Naming> TargetSources<W, J> {
-    fn add(&mut self, alloc: Global, member: &WorkflowShard<W, J>) -> Result<(), Refusal>
+    fn add(&mut self, alloc: Global, member: &WorkflowShard<W, J>) -> Result<(), AllocError>
         ensures slots { OnOk result (self.new.slots ≡ self.old.slots ++ member.now.which.slot ∷ []) }
         ensures members { OnOk result (map (λ m. m.which) self.new.members.items ≡ map (λ m. m.which) self.old.members.items ++ member.now.which ∷ []) }
-        ensures err { IfErr result (λ e. e ≡ Refusal.OutOfMemory) }
     {
         self.slots.push(member.which.slot)?;
         self.members.push(copy_member(alloc, member)?)?;
@@ -161,11 +155,10 @@ impl<W: World, J: Naming> TargetSources<W, J> {
         alloc: Global,
         range: &KeyRange,
         member: &WorkflowShard<W, J>,
-    ) -> Result<(), Refusal>
+    ) -> Result<(), AllocError>
         requires { self.old.slots ≡ map (λ s. s.slot) (map (λ m. m.which) self.old.members.items) }
         ensures slots { OnOk result (self.new.slots ≡ map (λ s. s.slot) (map (λ m. m.which) self.new.members.items)) }
         ensures grown { OnOk result (HasGrown range.now member.now.which (map (λ m. m.which) self.old.members.items) (map (λ m. m.which) self.new.members.items)) }
-        ensures err { IfErr result (λ e. e ≡ Refusal.OutOfMemory) }
     {
         if !member.which.place.range.overlaps(range) {
             return Ok(());
@@ -180,11 +173,10 @@ pub fn overlapping_sources<W: World, J: Naming>(
     alloc: Global,
     range: &KeyRange,
     sources: &[SourceShard<W, J>],
-) -> Result<TargetSources<W, J>, Refusal>
+) -> Result<TargetSources<W, J>, AllocError>
     ensures slots { IfOk result (λ own. own.slots ≡ map (λ s. s.slot) (map (λ m. m.which) own.members.items)) }
     ensures own { IfOk result (λ own. AreOverlapped (map (λ s. s.member.which) sources.now) range.now (map (λ m. m.which) own.members.items)) }
     ensures those { IfOk result (λ own. AreThose range.now (map (λ s. s.member.which) sources.now) (map (λ m. m.which) own.members.items)) }
-    ensures err { IfErr result (λ e. e ≡ Refusal.OutOfMemory) }
 {
     let mut own = TargetSources {
         slots: Items::new(alloc),
@@ -197,9 +189,8 @@ pub fn overlapping_sources<W: World, J: Naming>(
 }
 
 // A store of the tables, which are empty.
-fn empty_store(alloc: Global, schema: &VSchema) -> Result<Store, Refusal>
+fn empty_store(alloc: Global, schema: &VSchema) -> Result<Store, AllocError>
     ensures ok { IfOk result (λ store. store.rows ≡ replicate (length schema.now.tables) []) }
-    ensures err { IfErr result (λ e. e ≡ Refusal.OutOfMemory) }
 {
     let mut store = Store::new(alloc);
     for table in schema.tables.as_slice() {
@@ -233,7 +224,7 @@ fn open_shard<W: World, J: Naming>(
     which: &mut shard_run::ShardRecord,
     schema: &VSchema,
     limits: Limits,
-) -> Result<Arc<Shard<W, J>, Global>, Refusal>
+) -> Result<Arc<Shard<W, J>, Global>, AllocError>
     requires opens { IsOpening W.opening }
     requires keyspace { which.old.place.keyspace < length W.opening.schema.keyspaces }
     requires free { AllByRecursion (IsFree W.opening) free.old.items }
@@ -251,7 +242,6 @@ fn open_shard<W: World, J: Naming>(
     ensures taken { OnOk result (map (λ s. s.slot) free.old.items ≡ map (λ s. s.slot) free.new.items ++ which.new.slot ∷ []) }
     ensures kept { OnErr result (map (λ s. s.slot) free.new.items ≡ map (λ s. s.slot) free.old.items) }
     ensures room { vec_capacity free.old ≤ vec_capacity free.new }
-    ensures err { IfErr result (λ e. e ≡ Refusal.OutOfMemory) }
 {
     let store = empty_store(alloc, schema)?;
     let mut copy = copy_shard(alloc, which)?;
@@ -264,12 +254,13 @@ fn open_shard<W: World, J: Naming>(
         Ok(shard) => Ok(shard),
         Err(seat) => {
             put(free, seat);
-            Err(Refusal::OutOfMemory)
+            Err(AllocError)
         }
     }
 }
 
 // A target of this range on a free slot, with those of the sources that overlap it.
+// It is handed what `begin` takes, and the sources that were found.
 fn make_target<W: World, J: Naming>(
     rt: &impl Wait,
     alloc: Global,
@@ -278,7 +269,7 @@ fn make_target<W: World, J: Naming>(
     config: ReshardConfig,
     sources: &[SourceShard<W, J>],
     range: KeyRange,
-) -> Result<TargetShard<W, J>, Refusal>
+) -> Result<TargetShard<W, J>, AllocError>
     requires opens { IsOpening W.opening }
     requires schema { schema.now ≡ W.opening.schema }
     requires config { IsReshardConfig W.opening W.limits config }
@@ -292,7 +283,6 @@ fn make_target<W: World, J: Naming>(
     ensures taken { IfOk result (λ t. map (λ s. s.slot) free.old.items ≡ map (λ s. s.slot) free.new.items ++ t.member.which.slot ∷ []) }
     ensures kept { OnErr result (map (λ s. s.slot) free.new.items ≡ map (λ s. s.slot) free.old.items) }
     ensures room { vec_capacity free.old ≤ vec_capacity free.new }
-    ensures err { IfErr result (λ e. e ≡ Refusal.OutOfMemory) }
 {
     let own = overlapping_sources(alloc, &range, sources)?;
     let mut target = PlannedTarget {
@@ -324,6 +314,7 @@ struct PlannedTarget<W: World, J: Naming> {
 }
 
 // A target of each range, on the last of the free slots.
+// It is handed what `begin` takes, and the sources that were found.
 pub(crate) fn make_targets<W: World, J: Naming>(
     rt: &impl Wait,
     alloc: Global,
@@ -332,7 +323,7 @@ pub(crate) fn make_targets<W: World, J: Naming>(
     config: ReshardConfig,
     sources: &[SourceShard<W, J>],
     ranges: &[KeyRange],
-) -> Result<Vec<TargetShard<W, J>>, Refusal>
+) -> Result<Vec<TargetShard<W, J>>, AllocError>
     requires opens { IsOpening W.opening }
     requires schema { schema.now ≡ W.opening.schema }
     requires config { IsReshardConfig W.opening W.limits config }
@@ -347,15 +338,14 @@ pub(crate) fn make_targets<W: World, J: Naming>(
     ensures free { AllByRecursion (IsFree W.opening) free.new.items }
     ensures taken { IfOk result (λ ts. map (λ s. s.slot) free.old.items ≡ map (λ s. s.slot) free.new.items ++ reverse (map (λ t. t.member.which.slot) ts.items)) }
     ensures kept { OnErr result (map (λ s. s.slot) free.new.items ≡ map (λ s. s.slot) free.old.items) }
-    ensures err { IfErr result (λ e. e ≡ Refusal.OutOfMemory) }
 {
     let mut made = Vec::with_capacity(alloc, ranges.len())?;
     for range in ranges {
         match make_target(rt, alloc, free, schema, config, sources, *range) {
             Ok(target) => made.push(target)?,
-            Err(refusal) => {
+            Err(error) => {
                 give_back(rt, free, made);
-                return Err(refusal);
+                return Err(error);
             }
         }
     }

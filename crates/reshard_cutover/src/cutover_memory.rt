@@ -1,5 +1,5 @@
 //! The memory of a cutover, which is made before its first step: the next partition, and for each source the targets that it names.
-ghost use Rattle.std.specs.Prelude.{◌≡◌, ◌++◌, IfOk, IfErr, IsPermutation, map, filter};
+ghost use Rattle.std.specs.Prelude.{◌≡◌, ◌++◌, IfOk, IsPermutation, map, filter};
 ghost use Rattle.serving.specs.Partitions.{IsPartition, AreOf};
 ghost use Rattle.reshard_cutover.specs.Steps.{has_source, named_for};
 
@@ -9,19 +9,18 @@ use journal::Naming;
 use serving::{Partition, ShardReference, copy_part};
 use shard::{Shard, World};
 use shard_contents::copy_shard;
-use std::alloc::Global;
+use std::alloc::{AllocError, Global};
 use std::cmp::Ordering;
 use std::sync::Arc;
-use vt_value::{Items, Refusal};
+use vt_value::Items;
 
 // Those of the targets that take from the source.
 fn named_of<W: World, J: Naming>(
     alloc: Global,
     source: usize,
     targets: &[TargetShard<W, J>],
-) -> Result<Items<shard_run::ShardRecord>, Refusal>
+) -> Result<Items<shard_run::ShardRecord>, AllocError>
     ensures ok { IfOk result (λ named. named ≡ filter (has_source source) (map (λ t. t.member.which) targets.now)) }
-    ensures err { IfErr result (λ e. e ≡ Refusal.OutOfMemory) }
 {
     let mut named = Items::new(alloc);
     for target in targets {
@@ -38,9 +37,8 @@ pub fn named_of_all<W: World, J: Naming>(
     alloc: Global,
     sources: &[SourceShard<W, J>],
     targets: &[TargetShard<W, J>],
-) -> Result<Vec<Items<shard_run::ShardRecord>>, Refusal>
+) -> Result<Vec<Items<shard_run::ShardRecord>>, AllocError>
     ensures ok { IfOk result (λ named. named.items ≡ map (λ s. named_for s.member.which (map (λ t. t.member.which) targets.now)) sources.now) }
-    ensures err { IfErr result (λ e. e ≡ Refusal.OutOfMemory) }
 {
     let mut all = Vec::new(alloc);
     for source in sources {
@@ -63,9 +61,8 @@ fn next_parts<W: World, J: Naming>(
     alloc: Global,
     rest: &[ShardReference<Shard<W, J>>],
     targets: &[TargetShard<W, J>],
-) -> Result<Vec<ShardReference<Shard<W, J>>>, Refusal>
+) -> Result<Vec<ShardReference<Shard<W, J>>>, AllocError>
     ensures ok { IfOk result (λ parts. IsPermutation (rest.now ++ map (λ t. t.member.shard.value) targets.now) parts.items) }
-    ensures err { IfErr result (λ e. e ≡ Refusal.OutOfMemory) }
 {
     let mut parts = Vec::new(alloc);
     for part in rest {
@@ -85,11 +82,10 @@ pub fn next_partition<W: World, J: Naming>(
     keyspace: usize,
     rest: &[ShardReference<Shard<W, J>>],
     targets: &[TargetShard<W, J>],
-) -> Result<Box<Partition<Shard<W, J>>>, Refusal>
+) -> Result<Box<Partition<Shard<W, J>>>, AllocError>
     requires next { IsPartition (rest.now ++ map (λ t. t.member.shard.value) targets.now) }
     requires home { AreOf keyspace (rest.now ++ map (λ t. t.member.shard.value) targets.now) }
     ensures next { IfOk result (λ partition. AreOf keyspace partition.value) }
-    ensures err { IfErr result (λ e. e ≡ Refusal.OutOfMemory) }
 {
     let parts = next_parts(alloc, rest, targets)?;
     Ok(Box::new(alloc, Partition::new(keyspace, parts))?)

@@ -1,4 +1,5 @@
 //! Why a call of a workflow is refused: N1 to N5, or what a shard refuses.
+use std::alloc::AllocError;
 use std::fmt::{Display, Error, Formatter, Write};
 use vt_value::Refusal;
 
@@ -27,6 +28,18 @@ impl From<Refusal> for ReshardFault {
 
     fn from(refusal: Refusal) -> ReshardFault {
         ReshardFault::Refused(refusal)
+    }
+}
+
+impl From<AllocError> for ReshardFault {
+    ghost use Rattle.std.specs.Prelude.{◌≡◌};
+    ghost use Rattle.vt_value.specs.declared.refusal.Refusal.TheVariants.{OutOfMemory};
+    ghost use Rattle.reshard_cutover.specs.declared.fault.ReshardFault.TheVariants.{Refused};
+
+    ghost from_gives = { λ _ fault. fault ≡ Refused OutOfMemory };
+
+    fn from(_error: AllocError) -> ReshardFault {
+        ReshardFault::Refused(Refusal::OutOfMemory)
     }
 }
 

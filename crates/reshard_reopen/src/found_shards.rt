@@ -1,6 +1,6 @@
 //! The shards of a workflow that stopped, each looked at once under its lock.
 ghost use Rattle.shard_run.specs.declared.ShardRecord as which;
-ghost use Rattle.std.specs.Prelude.{◌≡◌, IfOk, IfErr, IfSome, map};
+ghost use Rattle.std.specs.Prelude.{◌≡◌, IfOk, IfSome, map};
 ghost use Rattle.journal.specs.Runs.{IsLegal};
 ghost use Rattle.shard_run.specs.Runs.{mode};
 ghost use Rattle.shard_law.specs.Entries.{MayFollow};
@@ -15,10 +15,10 @@ use serving::ShardReference;
 use shard::{Shard, ShardPass, ShardState, World};
 use shard_contents::copy_shard;
 use shard_run::Mode;
-use std::alloc::Global;
+use std::alloc::{AllocError, Global};
 use std::sync::{Arc, Wait};
 use vschema::Place;
-use vt_value::{Items, Refusal};
+use vt_value::Items;
 
 /// A shard, its mode in the run, the targets that it named, if it is retired, how many entries it has stored, if it is frozen, and whether
 /// its rows are gone, or its workflow was given up.
@@ -70,9 +70,8 @@ fn stored_of<W: World, J: Naming>(state: &ShardState<W, J>) -> u64 {
 fn copy_shards(
     alloc: Global,
     shards: &[shard_run::ShardRecord],
-) -> Result<Items<shard_run::ShardRecord>, Refusal>
+) -> Result<Items<shard_run::ShardRecord>, AllocError>
     ensures ok { IfOk result (λ copies. copies ≡ shards.now) }
-    ensures err { IfErr result (λ e. e ≡ Refusal.OutOfMemory) }
 {
     let mut copies = Items::new(alloc);
     for shard in shards {
@@ -88,11 +87,10 @@ fn look_at<W: World, J: Naming>(
     pass: &mut ShardPass<W, J>,
     slot: usize,
     place: &Place,
-) -> Result<Option<ShardSnapshot>, Refusal>
+) -> Result<Option<ShardSnapshot>, AllocError>
     requires legal { IsLegal (MayFollow W.opening) pass.old.seen }
     ensures seen { IfOk result (λ r. IfSome r (λ g. IsSnapshot W.opening pass.new.seen slot place.now g.which g.mode g.named)) }
     ensures onward { IsOnward W.opening pass.old pass.new }
-    ensures err { IfErr result (λ e. e ≡ Refusal.OutOfMemory) }
 {
     let _ = state.look(pass);
     if !state.stands_at(slot, place) {
@@ -118,11 +116,10 @@ fn look_locked<W: World, J: Naming>(
     part: &ShardReference<Shard<W, J>>,
     slot: usize,
     place: &Place,
-) -> Result<Option<ShardSnapshot>, Refusal>
+) -> Result<Option<ShardSnapshot>, AllocError>
     requires legal { IsLegal (MayFollow W.opening) pass.old.seen }
     ensures seen { IfOk result (λ r. IfSome r (λ g. IsSnapshot W.opening pass.new.seen slot place.now g.which g.mode g.named)) }
     ensures onward { IsOnward W.opening pass.old pass.new }
-    ensures err { IfErr result (λ e. e ≡ Refusal.OutOfMemory) }
 {
     look_at(&mut part.shard().lock(rt), alloc, pass, slot, place)
 }
@@ -130,12 +127,11 @@ fn look_locked<W: World, J: Naming>(
 fn found_of<W: World, J: Naming>(
     part: &ShardReference<Shard<W, J>>,
     snapshot: ShardSnapshot,
-) -> Result<FoundShard<W, J>, Refusal>
+) -> Result<FoundShard<W, J>, AllocError>
     ensures which { IfOk result (λ f. f.member.which ≡ snapshot.which) }
     ensures mode { IfOk result (λ f. f.mode ≡ snapshot.mode) }
     ensures named { IfOk result (λ f. f.named ≡ snapshot.named) }
     ensures shard { IfOk result (λ f. f.member.shard.value ≡ part.now) }
-    ensures err { IfErr result (λ e. e ≡ Refusal.OutOfMemory) }
 {
     let shard = Arc::try_clone(part.shard())?;
     let ShardSnapshot {
@@ -162,13 +158,12 @@ fn find<W: World, J: Naming>(
     alloc: Global,
     pass: &mut ShardPass<W, J>,
     part: &ShardReference<Shard<W, J>>,
-) -> Result<FoundShard<W, J>, Refusal>
+) -> Result<FoundShard<W, J>, AllocError>
     requires legal { IsLegal (MayFollow W.opening) pass.old.seen }
     ensures found { IfOk result (λ f. IsFound W.opening pass.old pass.new (f.member.which, f.mode, f.named)) }
     ensures seat { IfOk result (λ f. seat_of f.member.which ≡ part.now) }
     ensures shard { IfOk result (λ f. f.member.shard.value ≡ part.now) }
     ensures onward { IsOnward W.opening pass.old pass.new }
-    ensures err { IfErr result (λ e. e ≡ Refusal.OutOfMemory) }
 {
     let place = Place {
         keyspace: part.keyspace(),
@@ -190,12 +185,11 @@ pub(crate) fn find_all<W: World, J: Naming>(
     alloc: Global,
     pass: &mut ShardPass<W, J>,
     parts: &[ShardReference<Shard<W, J>>],
-) -> Result<Vec<FoundShard<W, J>>, Refusal>
+) -> Result<Vec<FoundShard<W, J>>, AllocError>
     requires legal { IsLegal (MayFollow W.opening) pass.old.seen }
     ensures found { IfOk result (λ found. AreFound W.opening pass.old pass.new parts.now (map (λ f. (f.member.which, f.mode, f.named)) found.items)) }
     ensures shards { IfOk result (λ found. map (λ f. f.member.shard.value) found.items ≡ parts.now) }
     ensures onward { IsOnward W.opening pass.old pass.new }
-    ensures err { IfErr result (λ e. e ≡ Refusal.OutOfMemory) }
 {
     let mut found = Vec::new(alloc);
     for part in parts {

@@ -1,5 +1,5 @@
 //! Sources, and targets that take from them, are made again of shards that were found, if they are those of one workflow.
-ghost use Rattle.std.specs.Prelude.{◌≡◌, ◌++◌, ℕ, true, false, IfOk, IfErr, IfSome, MatchOption, map};
+ghost use Rattle.std.specs.Prelude.{◌≡◌, ◌++◌, ℕ, true, false, IfOk, IfSome, MatchOption, map};
 ghost use Rattle.std.specs.List.{AllByRecursion};
 ghost use Rattle.keyrange.specs.Names.{IsNamed};
 ghost use Rattle.serving.specs.Partitions.{IsPartition, AreOf};
@@ -16,17 +16,15 @@ use reshard_create::{copy_member, overlapping_sources};
 use reshard_cutover::{SourceShard, TargetShard, note_retired};
 use serving::ShardReference;
 use shard::{Shard, World};
-use std::alloc::Global;
+use std::alloc::{AllocError, Global};
 use std::sync::Wait;
-use vt_value::Refusal;
 
 // The shards as sources.
 fn as_sources<W: World, J: Naming>(
     alloc: Global,
     found: &[FoundShard<W, J>],
-) -> Result<Vec<SourceShard<W, J>>, Refusal>
+) -> Result<Vec<SourceShard<W, J>>, AllocError>
     ensures ok { IfOk result (λ sources. map (λ s. s.member.which) sources.items ≡ map (λ f. f.member.which) found.now) }
-    ensures err { IfErr result (λ e. e ≡ Refusal.OutOfMemory) }
 {
     let mut sources = Vec::new(alloc);
     for one in found {
@@ -42,9 +40,8 @@ fn as_sources<W: World, J: Naming>(
 fn modes_of<W: World, J: Naming>(
     alloc: Global,
     found: &[FoundShard<W, J>],
-) -> Result<Vec<shard_run::Mode>, Refusal>
+) -> Result<Vec<shard_run::Mode>, AllocError>
     ensures ok { IfOk result (λ modes. modes.items ≡ map (λ f. f.mode) found.now) }
-    ensures err { IfErr result (λ e. e ≡ Refusal.OutOfMemory) }
 {
     let mut modes = Vec::new(alloc);
     for one in found {
@@ -65,12 +62,11 @@ fn target_of<W: World, J: Naming>(
     alloc: Global,
     found: &FoundShard<W, J>,
     sources: &[SourceShard<W, J>],
-) -> Result<Option<TargetShard<W, J>>, Refusal>
+) -> Result<Option<TargetShard<W, J>>, AllocError>
     ensures which { IfOk result (λ r. MatchOption r (TakesThose (map (λ s. s.member.which) sources.now) found.now.member.which → ⊥)
         (λ t. t.member.which ≡ found.now.member.which)) }
     ensures shard { IfOk result (λ r. IfSome r (λ t. t.member.shard.value ≡ found.now.member.shard.value)) }
     ensures taken { IfOk result (λ r. IfSome r (λ t. IsRebuiltTarget (map (λ s. s.member.which) sources.now) (t.member.which, map (λ s. s.which) t.sources.items))) }
-    ensures err { IfErr result (λ e. e ≡ Refusal.OutOfMemory) }
 {
     let which = &found.member.which;
     let own = overlapping_sources(alloc, &which.place.range, sources)?;
@@ -89,13 +85,12 @@ fn targets_of<W: World, J: Naming>(
     alloc: Global,
     found: &[FoundShard<W, J>],
     sources: &[SourceShard<W, J>],
-) -> Result<Option<Vec<TargetShard<W, J>>>, Refusal>
+) -> Result<Option<Vec<TargetShard<W, J>>>, AllocError>
     ensures which { IfOk result (λ r. MatchOption r (AllByRecursion (TakesThose (map (λ s. s.member.which) sources.now)) (map (λ f. f.member.which) found.now) → ⊥)
         (λ ts. map (λ t. t.member.which) ts.items ≡ map (λ f. f.member.which) found.now)) }
     ensures shards { IfOk result (λ r. IfSome r (λ ts. map (λ t. t.member.shard.value) ts.items ≡ map (λ f. f.member.shard.value) found.now)) }
     ensures taken { IfOk result (λ r. IfSome r (λ ts. AllByRecursion (IsRebuiltTarget (map (λ s. s.member.which) sources.now))
         (map (λ t. (t.member.which, map (λ s. s.which) t.sources.items)) ts.items))) }
-    ensures err { IfErr result (λ e. e ≡ Refusal.OutOfMemory) }
 {
     let mut targets = Vec::new(alloc);
     for one in found {
@@ -112,11 +107,10 @@ fn progress_of_found<W: World, J: Naming>(
     alloc: Global,
     sources: &[FoundShard<W, J>],
     targets: &[FoundShard<W, J>],
-) -> Result<Option<CutoverProgress>, Refusal>
+) -> Result<Option<CutoverProgress>, AllocError>
     ensures progress { IfOk result (λ r. MatchOption r
         ((frozen retired served : ℕ) → IsCutoverProgress (map (λ f. f.mode) sources.now) (map (λ f. f.mode) targets.now) frozen retired served → ⊥)
         (λ c. IsCutoverProgress (map (λ f. f.mode) sources.now) (map (λ f. f.mode) targets.now) c.frozen c.retired c.served)) }
-    ensures err { IfErr result (λ e. e ≡ Refusal.OutOfMemory) }
 {
     let of_sources = modes_of(alloc, sources)?;
     let of_targets = modes_of(alloc, targets)?;
@@ -137,14 +131,13 @@ fn sides_of<W: World, J: Naming>(
     retired: usize,
     sources: &[FoundShard<W, J>],
     targets: &[FoundShard<W, J>],
-) -> Result<Option<SourcesAndTargets<W, J>>, Refusal>
+) -> Result<Option<SourcesAndTargets<W, J>>, AllocError>
     ensures sources { IfOk result (λ r. IfSome r (λ s. map (λ s. s.member.which) s.sources.items ≡ map (λ f. f.member.which) sources.now)) }
     ensures targets { IfOk result (λ r. MatchOption r (AllByRecursion (TakesThose (map (λ f. f.member.which) sources.now)) (map (λ f. f.member.which) targets.now) → ⊥)
         (λ s. map (λ t. t.member.which) s.targets.items ≡ map (λ f. f.member.which) targets.now)) }
     ensures shards { IfOk result (λ r. IfSome r (λ s. map (λ t. t.member.shard.value) s.targets.items ≡ map (λ f. f.member.shard.value) targets.now)) }
     ensures taken { IfOk result (λ r. IfSome r (λ s. AllByRecursion (IsRebuiltTarget (map (λ f. f.member.which) sources.now))
         (map (λ t. (t.member.which, map (λ s. s.which) t.sources.items)) s.targets.items))) }
-    ensures err { IfErr result (λ e. e ≡ Refusal.OutOfMemory) }
 {
     let mut own = as_sources(alloc, sources)?;
     let Some(made) = targets_of(alloc, targets, own.as_slice())? else {
@@ -164,10 +157,9 @@ fn rest_of<W: World, J: Naming>(
     parts: &[ShardReference<Shard<W, J>>],
     from: &[ShardReference<Shard<W, J>>],
     into: &[ShardReference<Shard<W, J>>],
-) -> Result<Option<Vec<ShardReference<Shard<W, J>>>>, Refusal>
+) -> Result<Option<Vec<ShardReference<Shard<W, J>>>>, AllocError>
     ensures rest { IfOk result (λ r. MatchOption r (MayReplace keyspace (others (from.now ++ into.now) parts.now) from.now into.now → ⊥)
         (λ rest. (rest.items ≡ others (from.now ++ into.now) parts.now) × MayReplace keyspace (others (from.now ++ into.now) parts.now) from.now into.now)) }
-    ensures err { IfErr result (λ e. e ≡ Refusal.OutOfMemory) }
 {
     let rest = others_of(alloc, parts, from, into)?;
     if may_replace(alloc, keyspace, rest.as_slice(), from, into)? {
@@ -187,6 +179,7 @@ pub struct RebuiltWorkflow<W: World, J: Naming> {
 }
 
 /// The workflow of these shards, with the other parts of the partition, if they are those of one.
+/// It is handed what `Workflow::reopen` takes, and the shards that were found there.
 pub(crate) fn rebuild_workflow<W: World, J: Naming>(
     rt: &impl Wait,
     alloc: Global,
@@ -196,7 +189,7 @@ pub(crate) fn rebuild_workflow<W: World, J: Naming>(
     into: &[ShardReference<Shard<W, J>>],
     sources: &[FoundShard<W, J>],
     targets: &[FoundShard<W, J>],
-) -> Result<Option<RebuiltWorkflow<W, J>>, Refusal>
+) -> Result<Option<RebuiltWorkflow<W, J>>, AllocError>
     requires sources { map (λ f. seat_of f.member.which) sources.now ≡ from.now }
     requires targets { map (λ f. seat_of f.member.which) targets.now ≡ into.now }
     requires shards { map (λ f. f.member.shard.value) targets.now ≡ into.now }
@@ -213,7 +206,6 @@ pub(crate) fn rebuild_workflow<W: World, J: Naming>(
         (map (λ t. (t.member.which, map (λ s. s.which) t.sources.items)) f.targets.items))) }
     ensures fit { IfOk result (λ r. IfSome r (λ f. IsRefitted keyspace f.rest.items (map (λ s. s.member.which) f.sources.items)
         (map (λ t. (t.member.which, map (λ s. s.which) t.sources.items)) f.targets.items) (map (λ t. t.member.shard.value) f.targets.items))) }
-    ensures err { IfErr result (λ e. e ≡ Refusal.OutOfMemory) }
 {
     let Some(progress) = progress_of_found(alloc, sources, targets)? else {
         return Ok(None);

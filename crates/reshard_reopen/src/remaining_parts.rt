@@ -1,5 +1,5 @@
 //! Which parts of a partition stay with the shards of a workflow, and whether these may take one another's place there.
-ghost use Rattle.std.specs.Prelude.{◌≡◌, ◌↔◌, ◌≤◌, ◌+◌, ◌==◌, ◌++◌, true, false, not, IsTrue, IfOk, IfErr};
+ghost use Rattle.std.specs.Prelude.{◌≡◌, ◌↔◌, ◌≤◌, ◌+◌, ◌==◌, ◌++◌, true, false, not, IsTrue, IfOk};
 ghost use Rattle.std.specs.List.{list_any};
 ghost use Rattle.keyrange.specs.Ranges.{Cover};
 ghost use Rattle.serving.specs.Partitions.{AreOf, ranges};
@@ -8,8 +8,7 @@ ghost use Rattle.reshard_reopen.specs.Rebuilt.{others, MayReplace};
 use keyrange::covers_once;
 use reshard_create::{MOST_PARTS, next_ranges};
 use serving::{Seated, ShardReference, copy_part};
-use std::alloc::Global;
-use vt_value::Refusal;
+use std::alloc::{AllocError, Global};
 
 /// Whether one of the parts is on the slot.
 pub fn stands_on<S: Seated + Drop>(slot: usize, parts: &[ShardReference<S>]) -> bool
@@ -35,9 +34,8 @@ pub(crate) fn others_of<S: Seated + Drop>(
     parts: &[ShardReference<S>],
     from: &[ShardReference<S>],
     into: &[ShardReference<S>],
-) -> Result<Vec<ShardReference<S>>, Refusal>
+) -> Result<Vec<ShardReference<S>>, AllocError>
     ensures ok { IfOk result (λ rest. rest.items ≡ others (from.now ++ into.now) parts.now) }
-    ensures err { IfErr result (λ e. e ≡ Refusal.OutOfMemory) }
 {
     let mut rest = Vec::new(alloc);
     for part in parts {
@@ -60,9 +58,8 @@ fn cover<S: Seated + Drop>(
     alloc: Global,
     rest: &[ShardReference<S>],
     parts: &[ShardReference<S>],
-) -> Result<bool, Refusal>
+) -> Result<bool, AllocError>
     ensures ok { IfOk result (λ b. IsTrue b ↔ Cover (ranges rest.now ++ ranges parts.now)) }
-    ensures err { IfErr result (λ e. e ≡ Refusal.OutOfMemory) }
 {
     let own = next_ranges(alloc, parts, &[])?;
     let all = next_ranges(alloc, rest, own.as_slice())?;
@@ -84,10 +81,9 @@ pub(crate) fn may_replace<S: Seated + Drop>(
     rest: &[ShardReference<S>],
     from: &[ShardReference<S>],
     into: &[ShardReference<S>],
-) -> Result<bool, Refusal>
+) -> Result<bool, AllocError>
     ensures yes { IfOk result (λ b. b ≡ true → MayReplace keyspace rest.now from.now into.now) }
     ensures no { IfOk result (λ b. b ≡ false → MayReplace keyspace rest.now from.now into.now → ⊥) }
-    ensures err { IfErr result (λ e. e ≡ Refusal.OutOfMemory) }
 {
     if from.is_empty() {
         return Ok(false);

@@ -15,9 +15,9 @@ use journal::Naming;
 use reshard_cutover::{ReshardFault, SourceShard, TargetShard, named_of_all, next_partition};
 use serving::{Partition, ShardReference};
 use shard::{Shard, ShardPass, World};
-use std::alloc::Global;
+use std::alloc::{AllocError, Global};
 use std::sync::Wait;
-use vt_value::{Items, Refusal};
+use vt_value::Items;
 
 // The sources and the targets, as looks found them.
 #[derive(Drop)]
@@ -32,13 +32,12 @@ fn find_both<W: World, J: Naming>(
     pass: &mut ShardPass<W, J>,
     from: &[ShardReference<Shard<W, J>>],
     into: &[ShardReference<Shard<W, J>>],
-) -> Result<FoundShards<W, J>, Refusal>
+) -> Result<FoundShards<W, J>, AllocError>
     requires legal { IsLegal (MayFollow W.opening) pass.old.seen }
     ensures found { IfOk result (λ b. IsBoth W.opening pass.old pass.new from.now into.now (map (λ f. (f.member.which, f.mode, f.named)) b.sources.items)
         (map (λ f. (f.member.which, f.mode, f.named)) b.targets.items)) }
     ensures shards { IfOk result (λ b. map (λ f. f.member.shard.value) b.targets.items ≡ into.now) }
     ensures onward { IsOnward W.opening pass.old pass.new }
-    ensures err { IfErr result (λ e. e ≡ Refusal.OutOfMemory) }
 {
     let sources = find_all(rt, alloc, pass, from)?;
     let targets = find_all(rt, alloc, pass, into)?;
@@ -56,6 +55,7 @@ fn is_over<W: World, J: Naming>(progress: CutoverProgress, both: &FoundShards<W,
 }
 
 // The workflow of the shards of these parts.
+// It is handed what `Workflow::reopen` takes.
 fn find_again<W: World, J: Naming>(
     rt: &impl Wait,
     alloc: Global,
@@ -119,13 +119,12 @@ fn memory_of<W: World, J: Naming>(
     rest: &[ShardReference<Shard<W, J>>],
     sources: &[SourceShard<W, J>],
     targets: &[TargetShard<W, J>],
-) -> Result<CutoverMemory<W, J>, Refusal>
+) -> Result<CutoverMemory<W, J>, AllocError>
     requires few { retired ≤ length sources.now }
     requires next { IsPartition (rest.now ++ map (λ t. t.member.shard.value) targets.now) }
     requires home { AreOf keyspace (rest.now ++ map (λ t. t.member.shard.value) targets.now) }
     ensures named { IfOk result (λ m. m.named.items ≡ map (λ s. named_for s.member.which (map (λ t. t.member.which) targets.now)) (drop retired sources.now)) }
     ensures next { IfOk result (λ m. AreOf keyspace m.next.value) }
-    ensures err { IfErr result (λ e. e ≡ Refusal.OutOfMemory) }
 {
     let next = next_partition(alloc, keyspace, rest, targets)?;
     let named = named_of_all(alloc, unretired(sources, retired), targets)?;
@@ -142,6 +141,7 @@ pub struct ReopenedWorkflow<W: World, J: Naming> {
 /// The workflow of the shards of these parts, each looked at under its lock, and the memory of the steps that are left. Refuses if the
 /// shards aren't the sources and the targets of one, with the other parts of the partition, as a cutover leaves them; if a source that is
 /// retired didn't name a target that takes from it; if the sources' rows were dropped, or the workflow was given up; and for want of memory.
+/// It is handed what `Workflow::reopen` takes.
 pub fn reopen_workflow<W: World, J: Naming>(
     rt: &impl Wait,
     alloc: Global,

@@ -1,5 +1,5 @@
 //! Streams of bytes in chunks.
-ghost use Rattle.std.specs.Prelude.{◌≡◌, ◌+◌, ◌<◌, ◌≤◌, ◌/◌, ◌%◌, [], ◌∷◌, ◌++◌, length, slice_set, if◌then◌else◌, IsTrue, IfErr, IfOk, OnErr, OnOk};
+ghost use Rattle.std.specs.Prelude.{◌≡◌, ◌+◌, ◌<◌, ◌≤◌, ◌/◌, ◌%◌, [], ◌∷◌, ◌++◌, length, slice_set, if◌then◌else◌, IsTrue, IfOk, OnErr, OnOk};
 ghost use Rattle.mysql_packet.specs.Frames.{packet};
 ghost use Rattle.std.specs.List.{concat};
 ghost use Rattle.resultset.specs.Chunks.{AreChunks};
@@ -11,10 +11,10 @@ use crate::parts::Part;
 use crate::straight::{put_short_definition, short_definition_len};
 use bytes::BytesMut;
 use mysql_message::numbers::{make_room, put_bytes};
-use std::alloc::Global;
+use std::alloc::{AllocError, Global};
 use std::marker::Model;
 use std::mem;
-use vt_value::{Items, Refusal};
+use vt_value::Items;
 
 /// The most bytes of a chunk.
 pub const CHUNK_LIMIT: usize = 1 << 14;
@@ -64,11 +64,10 @@ impl Chunks {
     }
 
     /// Appends a stream. Refuses only for want of memory, and then leaves this one as it was.
-    pub(crate) fn append(&mut self, filling: Filling) -> Result<(), Refusal>
+    pub(crate) fn append(&mut self, filling: Filling) -> Result<(), AllocError>
         ensures ok { OnOk result (concat self.new ≡ concat self.old ++ filling) }
         ensures each { OnOk result (AreChunks self.new) }
         ensures err { OnErr result (self.new ≡ self.old) }
-        ensures memory { IfErr result (λ e. e ≡ Refusal.OutOfMemory) }
     {
         let Chunks { chunks: mut more } = filling.into_chunks()?;
         if self.chunks.is_empty() {
@@ -103,9 +102,8 @@ impl Model for Filling {
 
 impl Filling {
     /// A stream that begins.
-    pub(crate) fn new(alloc: Global) -> Result<Filling, Refusal>
+    pub(crate) fn new(alloc: Global) -> Result<Filling, AllocError>
         ensures none { IfOk result (λ filling. filling ≡ []) }
-        ensures err { IfErr result (λ e. e ≡ Refusal.OutOfMemory) }
     {
         Ok(Filling {
             full: Vec::new(alloc),
@@ -137,9 +135,8 @@ impl Filling {
     }
 
     /// Appends bytes. Refuses only for want of memory.
-    pub(crate) fn append(&mut self, alloc: Global, bytes: &[u8]) -> Result<(), Refusal>
+    pub(crate) fn append(&mut self, alloc: Global, bytes: &[u8]) -> Result<(), AllocError>
         ensures ok { OnOk result (self.new ≡ self.old ++ bytes.now) }
-        ensures err { IfErr result (λ e. e ≡ Refusal.OutOfMemory) }
     {
         let mut rest = bytes;
         while rest.len() > CHUNK_LIMIT - self.last.len() {
@@ -161,10 +158,9 @@ impl Filling {
         alloc: Global,
         number: u8,
         payload: &[u8],
-    ) -> Result<(), Refusal>
+    ) -> Result<(), AllocError>
         requires { length payload.now < 256 }
         ensures ok { OnOk result (self.new ≡ self.old ++ packet number payload.now) }
-        ensures err { IfErr result (λ e. e ≡ Refusal.OutOfMemory) }
     {
         let header = [payload.len() as u8, 0, 0, number];
         if payload.len() + HEADER_LEN > CHUNK_LIMIT - self.last.len() {
@@ -178,9 +174,8 @@ impl Filling {
 
     /// Appends bytes, and others after them.
     #[inline(never)]
-    fn append_both(&mut self, alloc: Global, front: &[u8], more: &[u8]) -> Result<(), Refusal>
+    fn append_both(&mut self, alloc: Global, front: &[u8], more: &[u8]) -> Result<(), AllocError>
         ensures ok { OnOk result (self.new ≡ self.old ++ (front.now ++ more.now)) }
-        ensures err { IfErr result (λ e. e ≡ Refusal.OutOfMemory) }
     {
         self.append(alloc, front)?;
         self.append(alloc, more)
@@ -188,11 +183,10 @@ impl Filling {
 
     /// Appends the packet of a definition with short names straight into the present chunk, if this has room for it. Tells whether it has.
     /// Refuses only for want of memory.
-    pub(crate) fn put_definition(&mut self, number: u8, column: &Column) -> Result<bool, Refusal>
+    pub(crate) fn put_definition(&mut self, number: u8, column: &Column) -> Result<bool, AllocError>
         requires { HasShortNames column.now }
         ensures put { IfOk result (λ put. self.new ≡ (if put then self.old ++ packet number (definition_payload column.now) else self.old)) }
         ensures short { length (definition_payload column.now) < 2048 }
-        ensures err { IfErr result (λ e. e ≡ Refusal.OutOfMemory) }
     {
         let len = short_definition_len(column);
         if len + HEADER_LEN > CHUNK_LIMIT - self.last.len() {
@@ -205,10 +199,9 @@ impl Filling {
 
     /// Appends the packet of a part, encoded straight into the present chunk, if this has room for all of it. Tells whether it has. Refuses
     /// only for want of memory.
-    pub(crate) fn put_part(&mut self, number: u8, part: &Part) -> Result<bool, Refusal>
+    pub(crate) fn put_part(&mut self, number: u8, part: &Part) -> Result<bool, AllocError>
         ensures put { IfOk result (λ put. self.new ≡ (if put then self.old ++ packet number (part_payload part.now) else self.old)) }
         ensures short { IfOk result (λ put. IsTrue put → length (part_payload part.now) < 16384) }
-        ensures err { IfErr result (λ e. e ≡ Refusal.OutOfMemory) }
     {
         // what is longer than this tells is taken back, but the chunk has then grown past its limit
         if part.room() > CHUNK_LIMIT - self.last.len() {
@@ -218,9 +211,8 @@ impl Filling {
     }
 
     /// Its chunks. Refuses only for want of memory.
-    fn into_chunks(self) -> Result<Chunks, Refusal>
+    fn into_chunks(self) -> Result<Chunks, AllocError>
         ensures ok { IfOk result (λ chunks. concat chunks ≡ self) }
-        ensures err { IfErr result (λ e. e ≡ Refusal.OutOfMemory) }
     {
         let Filling { full, last } = self;
         if last.is_empty() {
@@ -233,9 +225,8 @@ impl Filling {
 }
 
 /// Appends a part's packet with 0 as its length.
-fn put_open(number: u8, part: &Part, out: &mut BytesMut) -> Result<(), Refusal>
+fn put_open(number: u8, part: &Part, out: &mut BytesMut) -> Result<(), AllocError>
     ensures ok { OnOk result (out.new.items ≡ out.old.items ++ open_packet number (part_payload part.now)) }
-    ensures err { IfErr result (λ e. e ≡ Refusal.OutOfMemory) }
     ensures capacity { length out.old.items + out.old.spare ≤ length out.new.items + out.new.spare }
 {
     put_bytes(&[0, 0, 0, number], out)?;
@@ -253,12 +244,11 @@ fn set_length(at: usize, size: usize, bytes: &mut [u8])
 }
 
 /// Appends a part's packet, if the bytes are then no more than a chunk may have; else they stay as they were. Tells whether it did.
-fn put_within(number: u8, part: &Part, out: &mut BytesMut) -> Result<bool, Refusal>
+fn put_within(number: u8, part: &Part, out: &mut BytesMut) -> Result<bool, AllocError>
     requires { length out.old.items ≤ 16384 }
     ensures put { IfOk result (λ put. out.new.items ≡ (if put then out.old.items ++ packet number (part_payload part.now) else out.old.items)) }
     ensures short { IfOk result (λ put. IsTrue put → length (part_payload part.now) < 16384) }
     ensures within { length out.new.items ≤ 16384 }
-    ensures err { IfErr result (λ e. e ≡ Refusal.OutOfMemory) }
     ensures capacity { length out.old.items + out.old.spare ≤ length out.new.items + out.new.spare }
 {
     let start = out.len();

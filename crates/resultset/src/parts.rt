@@ -1,11 +1,12 @@
 //! What the packets of a result set carry, one each.
-ghost use Rattle.std.specs.Prelude.{◌≡◌, ◌+◌, ◌≤◌, ◌++◌, length, IfErr, OnOk};
+ghost use Rattle.std.specs.Prelude.{◌≡◌, ◌+◌, ◌≤◌, ◌++◌, length, OnOk};
 ghost use Rattle.resultset.specs.inner.Parts.{part_payload};
 
 use crate::Column;
 use crate::writing::{put_definition, put_row};
 use bytes::BytesMut;
-use vt_value::{Refusal, Value};
+use std::alloc::AllocError;
+use vt_value::Value;
 
 /// What a packet of a result set carries whose length isn't known before it is written.
 #[derive(Clone, Copy)]
@@ -64,9 +65,8 @@ impl<'a> Part<'a> {
 
     /// Appends its payload.
     #[inline(always)]
-    pub(crate) fn put(&self, out: &mut BytesMut) -> Result<(), Refusal>
+    pub(crate) fn put(&self, out: &mut BytesMut) -> Result<(), AllocError>
         ensures ok { OnOk result (out.new.items ≡ out.old.items ++ part_payload self.now) }
-        ensures err { IfErr result (λ e. e ≡ Refusal.OutOfMemory) }
         ensures capacity { length out.old.items + out.old.spare ≤ length out.new.items + out.new.spare }
     {
         match self {

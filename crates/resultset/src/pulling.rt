@@ -1,5 +1,5 @@
 //! Result sets whose rows are pulled.
-ghost use Rattle.std.specs.Prelude.{◌≡◌, ◌+◌, ◌<◌, ◌≤◌, ◌++◌, length, map, IfErr, IfOk, OnErr, OnOk};
+ghost use Rattle.std.specs.Prelude.{◌≡◌, ◌+◌, ◌<◌, ◌≤◌, ◌++◌, length, map, IfOk, OnErr, OnOk};
 ghost use Rattle.std.specs.List.{concat};
 ghost use Rattle.mysql_packet.specs.Numbers.{length_encoded};
 ghost use Rattle.mysql_packet.specs.Frames.{frame, frames_from, number_after, number_after_all};
@@ -17,15 +17,15 @@ use mysql_message::numbers::length_encoded;
 use mysql_message::{eof_payload, set_end_payload};
 use mysql_packet::put_payload;
 use operators::Operator;
-use std::alloc::Global;
+use std::alloc::{AllocError, Global};
 use std::mem;
-use vt_value::Refusal;
 
 // Promise: A result set whose rows are pulled, each encoded as it comes and then dropped, is appended in that spelling, in chunks of at
 // most 16,384 bytes of which none is empty; if memory is refused, also to a row that is pulled, the chunks are as they were
 /// Appends the packets of the result set with these columns and with the rows that are still to come, the first with this sequence
 /// number, and gives the number after the last. Each row is encoded as it is pulled, and then dropped. It refuses only for want of memory,
 /// also if pulling a row does, and then leaves the stream as it was.
+/// A set's parts are handed over one by one, since its rows are still to be pulled.
 pub fn encode_rows<R: Operator>(
     alloc: Global,
     columns: &[Column],
@@ -34,7 +34,7 @@ pub fn encode_rows<R: Operator>(
     status: u16,
     end: SetEnd,
     out: &mut Chunks,
-) -> Result<u8, Refusal>
+) -> Result<u8, AllocError>
     ensures ok { OnOk result (concat out.new
         ≡ concat out.old ++ encoded end (Outcome.Rows (record { columns = columns.now; rows = R.to_come rows })) number status) }
     ensures next { IfOk result (λ n. n
@@ -42,7 +42,6 @@ pub fn encode_rows<R: Operator>(
     // Each chunk has at most 16,384 bytes, and none is empty.
     ensures chunks { OnOk result (AreChunks out.new) }
     ensures err { OnErr result (out.new ≡ out.old) }
-    ensures memory { IfErr result (λ e. e ≡ Refusal.OutOfMemory) }
 {
     let mut rows = rows;
     let mut filling = Filling::new(alloc)?;
@@ -55,6 +54,7 @@ pub fn encode_rows<R: Operator>(
 // full chunks before them are given; the buffer has the room for a refusal again, whatever happened
 /// Appends the packets of such a result set to the bytes in a buffer, which keeps the last of them, and gives the full chunks before those. Few
 /// result sets have any, so a short one takes no memory of its own. Refuses only for want of memory, and the buffer may then have any bytes.
+/// A set's parts are handed over one by one, since its rows are still to be pulled.
 pub fn encode_rows_after<R: Operator>(
     alloc: Global,
     columns: &[Column],
@@ -63,7 +63,7 @@ pub fn encode_rows_after<R: Operator>(
     status: u16,
     end: SetEnd,
     last: &mut BytesMut,
-) -> Result<Chunks, Refusal>
+) -> Result<Chunks, AllocError>
     requires within { length last.old.items ≤ CHUNK_LIMIT }
     requires room { LAST_ROOM ≤ length last.old.items + last.old.spare }
     ensures ok { IfOk result (λ chunks. concat chunks ++ last.new.items
@@ -73,7 +73,6 @@ pub fn encode_rows_after<R: Operator>(
     ensures within { length last.new.items ≤ CHUNK_LIMIT }
     // It has the least room again, whatever happened.
     ensures room { LAST_ROOM ≤ length last.new.items + last.new.spare }
-    ensures memory { IfErr result (λ e. e ≡ Refusal.OutOfMemory) }
 {
     let mut pulled = rows;
     let mut filling = Filling::over(alloc, mem::replace(last, BytesMut::new(alloc)));
@@ -94,7 +93,7 @@ pub fn encode_rows_after<R: Operator>(
     }
 }
 
-/// Appends the packets of a result set.
+/// Appends the packets of a result set, whose parts are handed over one by one, since its rows are still to be pulled.
 fn fill<R: Operator>(
     alloc: Global,
     columns: &[Column],
@@ -103,12 +102,11 @@ fn fill<R: Operator>(
     status: u16,
     end: SetEnd,
     filling: &mut Filling,
-) -> Result<u8, Refusal>
+) -> Result<u8, AllocError>
     ensures ok { OnOk result (filling.new
         ≡ filling.old ++ frames_from number (set_payloads end (record { columns = columns.now; rows = R.to_come rows.old }) status)) }
     ensures next { IfOk result (λ n. n
         ≡ number_after_all number (set_payloads end (record { columns = columns.now; rows = R.to_come rows.old }) status)) }
-    ensures err { IfErr result (λ e. e ≡ Refusal.OutOfMemory) }
 {
     let number = fill_head(alloc, columns, number, status, end, filling)?;
     let number = fill_rows(alloc, rows, number, filling)?;
@@ -117,10 +115,14 @@ fn fill<R: Operator>(
 
 /// Appends the packets of a part that the present chunk has no room for.
 #[inline(never)]
-fn fill_long(alloc: Global, part: &Part, number: u8, filling: &mut Filling) -> Result<u8, Refusal>
+fn fill_long(
+    alloc: Global,
+    part: &Part,
+    number: u8,
+    filling: &mut Filling,
+) -> Result<u8, AllocError>
     ensures ok { OnOk result (filling.new ≡ filling.old ++ frame number (part_payload part.now)) }
     ensures next { IfOk result (λ n. n ≡ number_after number (part_payload part.now)) }
-    ensures err { IfErr result (λ e. e ≡ Refusal.OutOfMemory) }
 {
     let mut payload = BytesMut::new(alloc);
     part.put(&mut payload)?;
@@ -131,10 +133,14 @@ fn fill_long(alloc: Global, part: &Part, number: u8, filling: &mut Filling) -> R
 }
 
 /// Appends the packets of a part: straight to the present chunk if this has room for them.
-fn fill_part(alloc: Global, part: &Part, number: u8, filling: &mut Filling) -> Result<u8, Refusal>
+fn fill_part(
+    alloc: Global,
+    part: &Part,
+    number: u8,
+    filling: &mut Filling,
+) -> Result<u8, AllocError>
     ensures ok { OnOk result (filling.new ≡ filling.old ++ frame number (part_payload part.now)) }
     ensures next { IfOk result (λ n. n ≡ number_after number (part_payload part.now)) }
-    ensures err { IfErr result (λ e. e ≡ Refusal.OutOfMemory) }
 {
     if filling.put_part(number, part)? {
         return Ok(number.wrapping_add(1));
@@ -149,11 +155,10 @@ fn fill_short(
     payload: &[u8],
     number: u8,
     filling: &mut Filling,
-) -> Result<u8, Refusal>
+) -> Result<u8, AllocError>
     requires { length payload.now < 256 }
     ensures ok { OnOk result (filling.new ≡ filling.old ++ frame number payload.now) }
     ensures next { IfOk result (λ n. n ≡ number_after number payload.now) }
-    ensures err { IfErr result (λ e. e ≡ Refusal.OutOfMemory) }
 {
     match filling.put_short(alloc, number, payload) {
         Ok(()) => Ok(number.wrapping_add(1)),
@@ -162,10 +167,14 @@ fn fill_short(
 }
 
 /// Appends the packet of the number of columns.
-fn fill_count(alloc: Global, count: usize, number: u8, filling: &mut Filling) -> Result<u8, Refusal>
+fn fill_count(
+    alloc: Global,
+    count: usize,
+    number: u8,
+    filling: &mut Filling,
+) -> Result<u8, AllocError>
     ensures ok { OnOk result (filling.new ≡ filling.old ++ frame number (length_encoded count)) }
     ensures next { IfOk result (λ n. n ≡ number_after number (length_encoded count)) }
-    ensures err { IfErr result (λ e. e ≡ Refusal.OutOfMemory) }
 {
     if count < 251 {
         return fill_short(alloc, &[count as u8], number, filling);
@@ -184,10 +193,9 @@ fn fill_definition(
     column: &Column,
     number: u8,
     filling: &mut Filling,
-) -> Result<u8, Refusal>
+) -> Result<u8, AllocError>
     ensures ok { OnOk result (filling.new ≡ filling.old ++ frame number (definition_payload column.now)) }
     ensures next { IfOk result (λ n. n ≡ number_after number (definition_payload column.now)) }
-    ensures err { IfErr result (λ e. e ≡ Refusal.OutOfMemory) }
 {
     if !has_short_names(column) || !filling.put_definition(number, column)? {
         return fill_part(alloc, &Part::Definition(column), number, filling);
@@ -201,10 +209,9 @@ fn fill_definitions(
     columns: &[Column],
     number: u8,
     filling: &mut Filling,
-) -> Result<u8, Refusal>
+) -> Result<u8, AllocError>
     ensures ok { OnOk result (filling.new ≡ filling.old ++ frames_from number (map definition_payload columns.now)) }
     ensures next { IfOk result (λ n. n ≡ number_after_all number (map definition_payload columns.now)) }
-    ensures err { IfErr result (λ e. e ≡ Refusal.OutOfMemory) }
 {
     let mut next = number;
     for column in columns {
@@ -220,10 +227,9 @@ fn fill_definitions_end(
     status: u16,
     end: SetEnd,
     filling: &mut Filling,
-) -> Result<u8, Refusal>
+) -> Result<u8, AllocError>
     ensures ok { OnOk result (filling.new ≡ filling.old ++ frames_from number (after_definitions end status)) }
     ensures next { IfOk result (λ n. n ≡ number_after_all number (after_definitions end status)) }
-    ensures err { IfErr result (λ e. e ≡ Refusal.OutOfMemory) }
 {
     match end {
         SetEnd::EofPackets => fill_short(alloc, &eof_payload(status), number, filling),
@@ -238,10 +244,9 @@ fn fill_rows_end(
     status: u16,
     end: SetEnd,
     filling: &mut Filling,
-) -> Result<u8, Refusal>
+) -> Result<u8, AllocError>
     ensures ok { OnOk result (filling.new ≡ filling.old ++ frame number (after_rows end status)) }
     ensures next { IfOk result (λ n. n ≡ number_after number (after_rows end status)) }
-    ensures err { IfErr result (λ e. e ≡ Refusal.OutOfMemory) }
 {
     match end {
         SetEnd::EofPackets => fill_short(alloc, &eof_payload(status), number, filling),
@@ -257,10 +262,9 @@ fn fill_head(
     status: u16,
     end: SetEnd,
     filling: &mut Filling,
-) -> Result<u8, Refusal>
+) -> Result<u8, AllocError>
     ensures ok { OnOk result (filling.new ≡ filling.old ++ frames_from number (head_payloads end columns.now status)) }
     ensures next { IfOk result (λ n. n ≡ number_after_all number (head_payloads end columns.now status)) }
-    ensures err { IfErr result (λ e. e ≡ Refusal.OutOfMemory) }
 {
     let number = fill_count(alloc, columns.len(), number, filling)?;
     let number = fill_definitions(alloc, columns, number, filling)?;
@@ -273,10 +277,9 @@ fn fill_rows<R: Operator>(
     rows: &mut R,
     number: u8,
     filling: &mut Filling,
-) -> Result<u8, Refusal>
+) -> Result<u8, AllocError>
     ensures ok { OnOk result (filling.new ≡ filling.old ++ frames_from number (map row_payload (R.to_come rows.old))) }
     ensures next { IfOk result (λ n. n ≡ number_after_all number (map row_payload (R.to_come rows.old))) }
-    ensures err { IfErr result (λ e. e ≡ Refusal.OutOfMemory) }
 {
     let mut next = number;
     while let Some(row) = rows.next(alloc)? {

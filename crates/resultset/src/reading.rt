@@ -1,5 +1,5 @@
 //! Reads a result back from its packets. No server needs it: that its packets have one meaning is said and tested by it.
-ghost use Rattle.std.specs.Prelude.{◌≡◌, ℕ, ◌<◌, ◌^◌, List, ◌++◌, length, map, IsTrue, IfOk, IfErr, IfSome, Some};
+ghost use Rattle.std.specs.Prelude.{◌≡◌, ℕ, ◌<◌, ◌^◌, List, ◌++◌, length, map, IsTrue, IfOk, IfSome, Some};
 ghost use Rattle.std.specs.List.{AllByRecursion};
 ghost use Rattle.vt_value.specs.Values.{Row};
 ghost use Rattle.vt_value.specs.declared.refusal.Refusal.{Refusal};
@@ -19,7 +19,7 @@ use crate::values::value_at;
 use crate::{Column, Outcome, ResultSet, SetEnd, encode};
 use bytes::BytesMut;
 use mysql_message::numbers::read_length_encoded;
-use std::alloc::Global;
+use std::alloc::{AllocError, Global};
 use vt_value::{Items, Refusal, Row};
 
 // Promise: What is read is a result that has this spelling, and a result that has it is read
@@ -31,16 +31,15 @@ pub fn decode(
     status: u16,
     end: SetEnd,
     bytes: &[u8],
-) -> Result<Option<Outcome<'static>>, Refusal>
+) -> Result<Option<Outcome<'static>>, AllocError>
     ensures found { IfOk result (λ o. IfSome o (λ x. IsResult x × Encodes end x number status bytes.now)) }
     ensures only { IfOk result (λ o. (x : Outcome) → IsResult x → IsTyped x → Encodes end x number status bytes.now
         → o ≡ Some x) }
-    ensures memory { IfErr result (λ e. e ≡ Refusal.OutOfMemory) }
 {
     let outcome = match read(alloc, end, bytes) {
         Ok(outcome) => outcome,
         Err(Unread::Malformed) => return Ok(None),
-        Err(Unread::OutOfMemory) => return Err(Refusal::OutOfMemory),
+        Err(Unread::OutOfMemory) => return Err(AllocError),
     };
     let mut again = BytesMut::new(alloc);
     encode(alloc, &outcome, number, status, end, &mut again)?;

@@ -1,5 +1,5 @@
 //! Writes a result as packets: the column count, the definitions, the rows, and what ends them. Packets go straight into the output.
-ghost use Rattle.std.specs.Prelude.{◌≡◌, ◌+◌, ◌≤◌, ◌∷◌, [], ◌++◌, length, map, take, IfErr, IfOk, IsOk, OnErr, OnOk};
+ghost use Rattle.std.specs.Prelude.{◌≡◌, ◌+◌, ◌≤◌, ◌∷◌, [], ◌++◌, length, map, take, IfOk, IsOk, OnErr, OnOk};
 ghost use Rattle.mysql_packet.specs.Numbers.{little_endian, length_encoded};
 ghost use Rattle.mysql_packet.specs.Frames.{frame, frames_from, number_after, number_after_all};
 ghost use Rattle.resultset.specs.Flags.{type_of, length_of};
@@ -15,8 +15,8 @@ use mysql_message::numbers::{
 };
 use mysql_message::{put_eof, put_err, put_ok, put_set_end};
 use mysql_packet::put_payload;
-use std::alloc::Global;
-use vt_value::{Refusal, Row, Value};
+use std::alloc::{AllocError, Global};
+use vt_value::{Row, Value};
 
 /// The catalog of each column, after its length.
 const CATALOG: &[u8] = b"\x03def";
@@ -37,11 +37,10 @@ pub fn encode(
     status: u16,
     end: SetEnd,
     out: &mut BytesMut,
-) -> Result<u8, Refusal>
+) -> Result<u8, AllocError>
     ensures ok { OnOk result (out.new.items ≡ out.old.items ++ encoded end outcome.now number status) }
     ensures next { IfOk result (λ n. n ≡ number_after_all number (payloads_of end outcome.now status)) }
     ensures err { OnErr result (out.new.items ≡ out.old.items) }
-    ensures memory { IfErr result (λ e. e ≡ Refusal.OutOfMemory) }
     // With that much room a count or a refusal can't fail.
     ensures room { IsSmall outcome.now → 64 ≤ out.old.spare → IsOk result }
     // No room is ever lost.
@@ -61,11 +60,10 @@ fn put_set_or_nothing(
     status: u16,
     end: SetEnd,
     out: &mut BytesMut,
-) -> Result<u8, Refusal>
+) -> Result<u8, AllocError>
     ensures ok { OnOk result (out.new.items ≡ out.old.items ++ frames_from number (set_payloads end set.now status)) }
     ensures next { IfOk result (λ n. n ≡ number_after_all number (set_payloads end set.now status)) }
     ensures err { OnErr result (out.new.items ≡ out.old.items) }
-    ensures memory { IfErr result (λ e. e ≡ Refusal.OutOfMemory) }
     ensures capacity { length out.old.items + out.old.spare ≤ length out.new.items + out.new.spare }
 {
     let len = out.len();
@@ -83,11 +81,10 @@ fn put_set(
     status: u16,
     end: SetEnd,
     out: &mut BytesMut,
-) -> Result<u8, Refusal>
+) -> Result<u8, AllocError>
     ensures ok { OnOk result (out.new.items ≡ out.old.items ++ frames_from number (set_payloads end set.now status)) }
     ensures next { IfOk result (λ n. n ≡ number_after_all number (set_payloads end set.now status)) }
     ensures err { OnErr result (take (length out.old.items) out.new.items ≡ out.old.items) }
-    ensures memory { IfErr result (λ e. e ≡ Refusal.OutOfMemory) }
     ensures capacity { length out.old.items + out.old.spare ≤ length out.new.items + out.new.spare }
 {
     let mut payload = BytesMut::with_capacity(alloc, PAYLOAD_ROOM)?;
@@ -105,12 +102,11 @@ pub(crate) fn put_head(
     end: SetEnd,
     payload: &mut BytesMut,
     out: &mut BytesMut,
-) -> Result<u8, Refusal>
+) -> Result<u8, AllocError>
     requires { payload.old.items ≡ [] }
     ensures ok { OnOk result (out.new.items ≡ out.old.items ++ frames_from number (head_payloads end columns.now status)) }
     ensures next { IfOk result (λ n. n ≡ number_after_all number (head_payloads end columns.now status)) }
     ensures err { OnErr result (take (length out.old.items) out.new.items ≡ out.old.items) }
-    ensures memory { IfErr result (λ e. e ≡ Refusal.OutOfMemory) }
     ensures capacity { length out.old.items + out.old.spare ≤ length out.new.items + out.new.spare }
 {
     put_length_encoded(columns.len() as u64, payload)?;
@@ -125,11 +121,10 @@ fn put_definitions_end(
     status: u16,
     end: SetEnd,
     out: &mut BytesMut,
-) -> Result<u8, Refusal>
+) -> Result<u8, AllocError>
     ensures ok { OnOk result (out.new.items ≡ out.old.items ++ frames_from number (after_definitions end status)) }
     ensures next { IfOk result (λ n. n ≡ number_after_all number (after_definitions end status)) }
     ensures err { OnErr result (out.new.items ≡ out.old.items) }
-    ensures memory { IfErr result (λ e. e ≡ Refusal.OutOfMemory) }
     ensures capacity { length out.old.items + out.old.spare ≤ length out.new.items + out.new.spare }
 {
     match end {
@@ -144,11 +139,10 @@ pub(crate) fn put_rows_end(
     status: u16,
     end: SetEnd,
     out: &mut BytesMut,
-) -> Result<u8, Refusal>
+) -> Result<u8, AllocError>
     ensures ok { OnOk result (out.new.items ≡ out.old.items ++ frame number (after_rows end status)) }
     ensures next { IfOk result (λ n. n ≡ number_after number (after_rows end status)) }
     ensures err { OnErr result (out.new.items ≡ out.old.items) }
-    ensures memory { IfErr result (λ e. e ≡ Refusal.OutOfMemory) }
     ensures capacity { length out.old.items + out.old.spare ≤ length out.new.items + out.new.spare }
 {
     match end {
@@ -163,12 +157,11 @@ fn put_definitions(
     number: u8,
     payload: &mut BytesMut,
     out: &mut BytesMut,
-) -> Result<u8, Refusal>
+) -> Result<u8, AllocError>
     ensures ok { OnOk result (out.new.items
         ≡ out.old.items ++ frames_from number (map definition_payload columns.now)) }
     ensures next { IfOk result (λ n. n ≡ number_after_all number (map definition_payload columns.now)) }
     ensures err { OnErr result (take (length out.old.items) out.new.items ≡ out.old.items) }
-    ensures memory { IfErr result (λ e. e ≡ Refusal.OutOfMemory) }
     ensures capacity { length out.old.items + out.old.spare ≤ length out.new.items + out.new.spare }
 {
     let mut next = number;
@@ -186,11 +179,10 @@ fn put_rows(
     number: u8,
     payload: &mut BytesMut,
     out: &mut BytesMut,
-) -> Result<u8, Refusal>
+) -> Result<u8, AllocError>
     ensures ok { OnOk result (out.new.items ≡ out.old.items ++ frames_from number (map row_payload rows.now)) }
     ensures next { IfOk result (λ n. n ≡ number_after_all number (map row_payload rows.now)) }
     ensures err { OnErr result (take (length out.old.items) out.new.items ≡ out.old.items) }
-    ensures memory { IfErr result (λ e. e ≡ Refusal.OutOfMemory) }
     ensures capacity { length out.old.items + out.old.spare ≤ length out.new.items + out.new.spare }
 {
     let mut next = number;
@@ -202,9 +194,8 @@ fn put_rows(
     Ok(next)
 }
 
-pub(crate) fn put_definition(column: &Column, payload: &mut BytesMut) -> Result<(), Refusal>
+pub(crate) fn put_definition(column: &Column, payload: &mut BytesMut) -> Result<(), AllocError>
     ensures ok { OnOk result (payload.new.items ≡ payload.old.items ++ definition_payload column.now) }
-    ensures memory { IfErr result (λ e. e ≡ Refusal.OutOfMemory) }
     ensures capacity { length payload.old.items + payload.old.spare ≤ length payload.new.items + payload.new.spare }
 {
     put_names(column, payload)?;
@@ -213,9 +204,8 @@ pub(crate) fn put_definition(column: &Column, payload: &mut BytesMut) -> Result<
 }
 
 /// Appends the catalog, which is `def`, and the names: each of the table's and the column's has two.
-fn put_names(column: &Column, payload: &mut BytesMut) -> Result<(), Refusal>
+fn put_names(column: &Column, payload: &mut BytesMut) -> Result<(), AllocError>
     ensures ok { OnOk result (payload.new.items ≡ payload.old.items ++ name_fields column.now) }
-    ensures memory { IfErr result (λ e. e ≡ Refusal.OutOfMemory) }
     ensures capacity { length payload.old.items + payload.old.spare ≤ length payload.new.items + payload.new.spare }
 {
     put_bytes(CATALOG, payload)?;
@@ -270,9 +260,8 @@ fn length_of(kind: Kind) -> u8
     }
 }
 
-pub(crate) fn put_row(row: &[Value], payload: &mut BytesMut) -> Result<(), Refusal>
+pub(crate) fn put_row(row: &[Value], payload: &mut BytesMut) -> Result<(), AllocError>
     ensures ok { OnOk result (payload.new.items ≡ payload.old.items ++ row_payload row.now) }
-    ensures memory { IfErr result (λ e. e ≡ Refusal.OutOfMemory) }
     ensures capacity { length payload.old.items + payload.old.spare ≤ length payload.new.items + payload.new.spare }
 {
     for value in row {
@@ -281,9 +270,8 @@ pub(crate) fn put_row(row: &[Value], payload: &mut BytesMut) -> Result<(), Refus
     Ok(())
 }
 
-fn put_value(value: &Value, payload: &mut BytesMut) -> Result<(), Refusal>
+fn put_value(value: &Value, payload: &mut BytesMut) -> Result<(), AllocError>
     ensures ok { OnOk result (payload.new.items ≡ payload.old.items ++ value_bytes value.now) }
-    ensures memory { IfErr result (λ e. e ≡ Refusal.OutOfMemory) }
     ensures capacity { length payload.old.items + payload.old.spare ≤ length payload.new.items + payload.new.spare }
 {
     match value {

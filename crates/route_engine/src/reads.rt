@@ -8,6 +8,7 @@ ghost use Rattle.shard_law.specs.Entries.{MayFollow};
 ghost use Rattle.shard_run.specs.Runs.{answers_queries};
 ghost use Rattle.shard_calls.specs.Answers.{needed, HasGone, HasRead, IsHeldUp, MayReadRefuse};
 ghost use Rattle.shard_calls.specs.inner.Scatter.{IsScattered, IsFinished, CanJoinAll, AllInOrder};
+ghost use Rattle.route_engine.specs.inner.Answers.{HasReadRows};
 
 use crate::engine::Engine;
 use crate::shown::{shown_by, shown_in, shown_whole};
@@ -22,11 +23,17 @@ use shard_calls::{
 };
 use sql_eval::narrow;
 use sql_tree::Item;
-use std::alloc::Global;
+use std::alloc::{AllocError, Global};
 use std::sync::Wait;
 use std::thread::Threads;
 use vschema::{Query, Table};
 use vt_value::{Items, Refusal, Row};
+
+/// What a query shows, each item with whether it was written with its table's name; and its rows, with what the reply says of the shards.
+type ReadRows = (
+    (Items<Item<usize>>, Items<bool>),
+    (Items<Row>, Items<ShardRead>),
+);
 
 // The one part that a query by its key needs.
 fn lone_part<'e, S: Seated + Drop>(
@@ -47,6 +54,7 @@ fn lone_part<'e, S: Seated + Drop>(
 
 impl<W: World + Send + Sync, J: Naming + Send + Sync, G: Gate> Engine<W, J, G> {
     // What the shards of the partition give for the plan; nothing if one of them doesn't serve.
+    // Its caller has found the partition, the table and the plan.
     fn scatter<R: Threads + Wait + Sync>(
         &self,
         rt: &R,
@@ -55,13 +63,12 @@ impl<W: World + Send + Sync, J: Naming + Send + Sync, G: Gate> Engine<W, J, G> {
         partition: &Partition<Shard<W, J>>,
         table: &Table,
         plan: &Plan,
-    ) -> Result<Option<Gathered>, Refusal>
+    ) -> Result<Option<Gathered>, AllocError>
         requires partition { AreOf table.now.keyspace partition.now }
         requires legal { IsLegal (MayFollow W.opening) pass.old.seen }
         ensures gone { HasGone W.opening pass.old pass.new }
         ensures ok { IfOk result (λ r. IfSome r (λ g. IsScattered W.opening table.now plan.now pass.old (map ⟦<Rows as Operator>⟧.to_come g.pieces.items) g.reads pass.new)) }
         ensures stalled { IfOk result (λ r. IfNone r (IsHeldUp W.opening table.now plan.now.route answers_queries pass.old.seen pass.new.seen)) }
-        ensures err { IfErr result (λ e. e ≡ Refusal.OutOfMemory) }
     {
         let jobs = jobs(alloc, pass, partition.parts(), table, plan)?;
         let done = read_all(rt, alloc, &self.gate, jobs)?;
@@ -69,6 +76,7 @@ impl<W: World + Send + Sync, J: Naming + Send + Sync, G: Gate> Engine<W, J, G> {
     }
 
     // What the part's shard gives for the plan, which needs no other by the partition; nothing if it doesn't serve.
+    // Its caller has found the partition, the part, the table and the plan.
     fn ask_alone(
         &self,
         rt: &impl Wait,
@@ -78,14 +86,13 @@ impl<W: World + Send + Sync, J: Naming + Send + Sync, G: Gate> Engine<W, J, G> {
         part: &ShardReference<Shard<W, J>>,
         table: &Table,
         plan: &Plan,
-    ) -> Result<Option<GatheredAlone>, Refusal>
+    ) -> Result<Option<GatheredAlone>, AllocError>
         requires partition { AreOf table.now.keyspace partition.now }
         requires needed { needed table.now plan.now.route partition.now ≡ part.now ∷ [] }
         requires legal { IsLegal (MayFollow W.opening) pass.old.seen }
         ensures gone { HasGone W.opening pass.old pass.new }
         ensures ok { IfOk result (λ r. IfSome r (λ g. IsScattered W.opening table.now plan.now pass.old (g.rows ∷ []) g.reads pass.new)) }
         ensures stalled { IfOk result (λ r. IfNone r (IsHeldUp W.opening table.now plan.now.route answers_queries pass.old.seen pass.new.seen)) }
-        ensures err { IfErr result (λ e. e ≡ Refusal.OutOfMemory) }
     {
         // its parts are those of a partition
         let _ = partition.parts();
@@ -96,6 +103,7 @@ impl<W: World + Send + Sync, J: Naming + Send + Sync, G: Gate> Engine<W, J, G> {
 
     // The rows of the plan's query over one shard, which alone it needs by the partition, and what the reply says of it; nothing if that
     // doesn't serve.
+    // Its caller has found the partition, the part, the table and the plan.
     fn answer_alone(
         &self,
         rt: &impl Wait,
@@ -105,7 +113,7 @@ impl<W: World + Send + Sync, J: Naming + Send + Sync, G: Gate> Engine<W, J, G> {
         part: &ShardReference<Shard<W, J>>,
         table: &Table,
         plan: &Plan,
-    ) -> Result<Option<(Items<Row>, Items<ShardRead>)>, Refusal>
+    ) -> Result<Option<(Items<Row>, Items<ShardRead>)>, AllocError>
         requires partition { AreOf table.now.keyspace partition.now }
         requires needed { needed table.now plan.now.route partition.now ≡ part.now ∷ [] }
         requires fit { CanJoinAll W.opening table.now plan.now pass.old }
@@ -114,7 +122,6 @@ impl<W: World + Send + Sync, J: Naming + Send + Sync, G: Gate> Engine<W, J, G> {
         ensures gone { HasGone W.opening pass.old pass.new }
         ensures ok { IfOk result (λ r. IfSome r (λ x. IsFinished W.opening table.now plan.now pass.old x.0 x.1 pass.new)) }
         ensures stalled { IfOk result (λ r. IfNone r (IsHeldUp W.opening table.now plan.now.route answers_queries pass.old.seen pass.new.seen)) }
-        ensures err { IfErr result (λ e. e ≡ Refusal.OutOfMemory) }
     {
         let Some(gathered) = self.ask_alone(rt, alloc, pass, partition, part, table, plan)? else {
             return Ok(None);
@@ -122,15 +129,16 @@ impl<W: World + Send + Sync, J: Naming + Send + Sync, G: Gate> Engine<W, J, G> {
         let GatheredAlone { rows, reads } = gathered;
         match plan.finish.answer_alone(alloc, rows) {
             Ok(answered) => Ok(Some((answered, reads))),
-            Err(refusal) => {
+            Err(refused) => {
                 drop(reads);
-                Err(refusal)
+                Err(refused)
             }
         }
     }
 
     // The rows of the plan's query over the shards that it needs by the partition, and what the reply says of these; nothing if one of them
     // doesn't serve.
+    // Its caller has found the partition, the table and the plan.
     fn answer_by<R: Threads + Wait + Sync>(
         &self,
         rt: &R,
@@ -139,7 +147,7 @@ impl<W: World + Send + Sync, J: Naming + Send + Sync, G: Gate> Engine<W, J, G> {
         partition: &Partition<Shard<W, J>>,
         table: &Table,
         plan: &Plan,
-    ) -> Result<Option<(Items<Row>, Items<ShardRead>)>, Refusal>
+    ) -> Result<Option<(Items<Row>, Items<ShardRead>)>, AllocError>
         requires partition { AreOf table.now.keyspace partition.now }
         requires fit { CanJoinAll W.opening table.now plan.now pass.old }
         requires order { AllInOrder W.opening table.now plan.now pass.old }
@@ -147,7 +155,6 @@ impl<W: World + Send + Sync, J: Naming + Send + Sync, G: Gate> Engine<W, J, G> {
         ensures gone { HasGone W.opening pass.old pass.new }
         ensures ok { IfOk result (λ r. IfSome r (λ x. IsFinished W.opening table.now plan.now pass.old x.0 x.1 pass.new)) }
         ensures stalled { IfOk result (λ r. IfNone r (IsHeldUp W.opening table.now plan.now.route answers_queries pass.old.seen pass.new.seen)) }
-        ensures err { IfErr result (λ e. e ≡ Refusal.OutOfMemory) }
     {
         if let Some(part) = lone_part(partition.parts(), table, &plan.route) {
             return self.answer_alone(rt, alloc, pass, partition, part, table, plan);
@@ -158,9 +165,9 @@ impl<W: World + Send + Sync, J: Naming + Send + Sync, G: Gate> Engine<W, J, G> {
         let Gathered { pieces, reads } = gathered;
         match plan.finish.answer_in_order(alloc, pieces) {
             Ok(rows) => Ok(Some((rows, reads))),
-            Err(refusal) => {
+            Err(refused) => {
                 drop(reads);
-                Err(refusal)
+                Err(refused)
             }
         }
     }
@@ -204,12 +211,11 @@ impl<W: World + Send + Sync, J: Naming + Send + Sync, G: Gate> Engine<W, J, G> {
         pass: &mut ShardPass<W, J>,
         table: &Table,
         query: &Query,
-    ) -> Result<Option<(Items<Row>, Items<ShardRead>)>, Refusal>
+    ) -> Result<Option<(Items<Row>, Items<ShardRead>)>, AllocError>
         requires keyspace { table.now.keyspace < length self.now.keyspaces }
         requires legal { IsLegal (MayFollow W.opening) pass.old.seen }
         ensures gone { HasGone W.opening pass.old pass.new }
         ensures ok { IfOk result (λ r. IfSome r (λ x. IsFinished W.opening table.now (planned table.now query.now) pass.old x.0 x.1 pass.new)) }
-        ensures err { IfErr result (λ e. e ≡ Refusal.OutOfMemory) }
     {
         if !is_plain(query) {
             return Ok(None);
@@ -238,26 +244,11 @@ impl<W: World + Send + Sync, J: Naming + Send + Sync, G: Gate> Engine<W, J, G> {
         alloc: Global,
         pass: &mut ShardPass<W, J>,
         query: Query,
-    ) -> Result<
-        (
-            (Items<Item<usize>>, Items<bool>),
-            (Items<Row>, Items<ShardRead>),
-        ),
-        Refusal,
-    >
+    ) -> Result<ReadRows, Refusal>
         requires there { query.table < length self.now.tables }
         requires joins { JoinsInPlace W.opening.schema query }
         requires legal { IsLegal (MayFollow W.opening) pass.old.seen }
-        ensures ok { IfOk result (λ r. HasRead W.opening pass.old query (record {
-          answer = Answer.Rows (record {
-            table = query.table;
-            join = query.join;
-            items = r.0.0;
-            qualified = r.0.1;
-            rows = r.1.0;
-          });
-          reads = r.1.1;
-        }) pass.new) }
+        ensures ok { IfOk result (λ r. HasReadRows W.opening pass.old query r.0.0 r.0.1 r.1.0 r.1.1 pass.new) }
         ensures items { IfOk result (λ r. r.0.0 ≡ query.items) }
         ensures err { IfErr result (λ r. MayReadRefuse W.opening pass.old query r pass.new) }
     {
@@ -265,7 +256,7 @@ impl<W: World + Send + Sync, J: Naming + Send + Sync, G: Gate> Engine<W, J, G> {
         let table = &self.schema.tables.as_slice()[ordinal];
         let mut plan = match plan(alloc, &self.schema, query) {
             Ok(plan) => plan,
-            Err(refusal) => return Err(refusal),
+            Err(_) => return Err(Refusal::OutOfMemory),
         };
         let answered = self.answer(rt, alloc, pass, table, &plan);
         let shown = shown_by(alloc, &mut plan);
@@ -285,26 +276,11 @@ impl<W: World + Send + Sync, J: Naming + Send + Sync, G: Gate> Engine<W, J, G> {
         alloc: Global,
         pass: &mut ShardPass<W, J>,
         query: Query,
-    ) -> Result<
-        (
-            (Items<Item<usize>>, Items<bool>),
-            (Items<Row>, Items<ShardRead>),
-        ),
-        Refusal,
-    >
+    ) -> Result<ReadRows, Refusal>
         requires there { query.table < length self.now.tables }
         requires joins { JoinsInPlace W.opening.schema query }
         requires legal { IsLegal (MayFollow W.opening) pass.old.seen }
-        ensures ok { IfOk result (λ r. HasRead W.opening pass.old query (record {
-          answer = Answer.Rows (record {
-            table = query.table;
-            join = query.join;
-            items = r.0.0;
-            qualified = r.0.1;
-            rows = r.1.0;
-          });
-          reads = r.1.1;
-        }) pass.new) }
+        ensures ok { IfOk result (λ r. HasReadRows W.opening pass.old query r.0.0 r.0.1 r.1.0 r.1.1 pass.new) }
         ensures items { IfOk result (λ r. r.0.0 ≡ query.items) }
         ensures err { IfErr result (λ r. MayReadRefuse W.opening pass.old query r pass.new) }
     {
@@ -313,7 +289,7 @@ impl<W: World + Send + Sync, J: Naming + Send + Sync, G: Gate> Engine<W, J, G> {
         match self.answer_point(rt, alloc, pass, table, &query) {
             Ok(Some(read)) => Ok((shown_in(query), read)),
             Ok(None) => self.rows_by_plan(rt, alloc, pass, query),
-            Err(refusal) => Err(refusal),
+            Err(_) => Err(Refusal::OutOfMemory),
         }
     }
 

@@ -93,6 +93,7 @@ impl<W: World + Send + Sync, J: Naming + Send + Sync, G: Gate> Engine<W, J, G> {
     }
 
     // The rows of a query on the table with this route.
+    // Its caller has found table and route.
     fn rows_by(
         &self,
         rt: &impl Wait,
@@ -145,6 +146,7 @@ impl<W: World + Send + Sync, J: Naming + Send + Sync, G: Gate> Engine<W, J, G> {
     }
 
     // The rows of a query in a transaction, by its route.
+    // The clauses tell what became of the pass and of both parts of the transaction, which are lent one by one.
     fn rows_in(
         &self,
         rt: &impl Wait,
@@ -178,6 +180,7 @@ impl<W: World + Send + Sync, J: Naming + Send + Sync, G: Gate> Engine<W, J, G> {
     }
 
     /// What a query gives in an open transaction.
+    /// The clauses tell what became of the pass and of both parts of the transaction, which are lent one by one.
     fn select_in(
         &self,
         rt: &impl Wait,
@@ -226,6 +229,7 @@ impl<W: World + Send + Sync, J: Naming + Send + Sync, G: Gate> Engine<W, J, G> {
     }
 
     /// A statement of an open transaction. One that is refused leaves what the transaction keeps.
+    /// The clauses tell what became of the pass and of both parts of the transaction, which are lent one by one.
     pub(crate) fn step_in(
         &self,
         rt: &impl Wait,

@@ -24,6 +24,7 @@ use vt_value::Refusal;
 
 impl<W: World + Send + Sync, J: Naming + Send + Sync, G: Gate> Engine<W, J, G> {
     // How many rows a write on the table with this route changes.
+    // Its caller has found table and route.
     fn count_by(
         &self,
         rt: &impl Wait,
@@ -86,6 +87,7 @@ impl<W: World + Send + Sync, J: Naming + Send + Sync, G: Gate> Engine<W, J, G> {
     }
 
     /// Makes a write in an open transaction.
+    /// The clauses tell what became of the pass and of both parts of the transaction, which are lent one by one.
     pub(crate) fn write_in(
         &self,
         rt: &impl Wait,
@@ -116,9 +118,9 @@ impl<W: World + Send + Sync, J: Naming + Send + Sync, G: Gate> Engine<W, J, G> {
                 drop(route);
                 Ok(counted(alloc, count?))
             }
-            Err(refusal) => {
+            Err(_) => {
                 drop(write);
-                Err(refusal)
+                Err(Refusal::OutOfMemory)
             }
         }
     }

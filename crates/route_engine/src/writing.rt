@@ -35,6 +35,7 @@ fn tried(committed: CommitOutcome) -> Tried
 impl<W: World + Send + Sync, J: Naming + Send + Sync, G: Gate> Engine<W, J, G> {
     // Commits the write on the one shard that it needs by the partition: the count, or the write again if that shard takes no commits.
     // If it needs several, each shard of the partition is looked at.
+    // Its caller has found the partition, the table and the route.
     #[inline(always)]
     fn commit(
         &self,
@@ -77,6 +78,7 @@ impl<W: World + Send + Sync, J: Naming + Send + Sync, G: Gate> Engine<W, J, G> {
     }
 
     // Tries a write until it is committed: by the present partition, and where its shard takes no commits by turns at the buffer, where it waits.
+    // Its caller has found table and route.
     fn commit_until(
         &self,
         rt: &impl Wait,
@@ -140,9 +142,9 @@ impl<W: World + Send + Sync, J: Naming + Send + Sync, G: Gate> Engine<W, J, G> {
                 drop(route);
                 Ok(counted(alloc, count?))
             }
-            Err(refusal) => {
+            Err(_) => {
                 drop(write);
-                Err(refusal)
+                Err(Refusal::OutOfMemory)
             }
         }
     }

@@ -1,5 +1,5 @@
 //! Opens a router with empty tables: makes a shard for each range, and the engine over them.
-ghost use Rattle.std.specs.Prelude.{◌≡◌, ◌==◌, ℕ, ◌<◌, ◌≤◌, ◌^◌, [], None, IsTrue, IfOk, IfErr, Contains, length, map, filter, take, drop, slice_index_or};
+ghost use Rattle.std.specs.Prelude.{◌≡◌, ◌==◌, ℕ, ◌<◌, ◌≤◌, ◌^◌, [], None, IsTrue, IfOk, Contains, length, map, filter, take, drop, slice_index_or};
 ghost use Rattle.std.specs.List.{range_with_len};
 ghost use Rattle.vschema.specs.WellFormed.{is_vschema};
 ghost use Rattle.journal.specs.Views.{fresh_seats, new_pass};
@@ -19,15 +19,13 @@ use serving::{Partition, Serving, ShardReference};
 use shard::{Limits, MOST_ROWS, MOST_STORED, Shard, ShardLaw, ShardPass, ShardState, Store, World};
 use shard_contents::copy_shard;
 use shard_run::Mode;
-use std::alloc::Global;
+use std::alloc::{AllocError, Global};
 use std::sync::Arc;
 use vschema::{Table, VSchema};
-use vt_value::Refusal;
 
 // A store of these tables, without rows.
-fn empty_store(alloc: Global, tables: &[Table]) -> Result<Store, Refusal>
+fn empty_store(alloc: Global, tables: &[Table]) -> Result<Store, AllocError>
     ensures ok { IfOk result (λ store. store.rows ≡ map (λ t. []) tables.now) }
-    ensures err { IfErr result (λ e. e ≡ Refusal.OutOfMemory) }
 {
     let mut store = Store::new(alloc);
     for table in tables {
@@ -43,7 +41,7 @@ fn empty_shard<W: World, J: Naming>(
     limits: Limits,
     seat: ShardSeat<ShardLaw<W>, J>,
     shard: &shard_run::ShardRecord,
-) -> Result<Arc<Shard<W, J>, Global>, Refusal>
+) -> Result<Arc<Shard<W, J>, Global>, AllocError>
     requires opens { IsOpening W.opening }
     requires limits { W.limits ≡ limits }
     requires most_rows { limits.rows ≤ 2 ^ 20 }
@@ -52,7 +50,6 @@ fn empty_shard<W: World, J: Naming>(
     requires opening { Contains (opening_shards W.opening) shard.now }
     requires seat { seat ≡ record { seen = []; slot = shard.now.slot } }
     ensures seat { IfOk result (λ held. held.value ≡ seat_of shard.now) }
-    ensures err { IfErr result (λ e. e ≡ Refusal.OutOfMemory) }
 {
     let store = empty_store(alloc, tables)?;
     let copy = copy_shard(alloc, shard)?;
@@ -77,7 +74,7 @@ fn empty_shards<W: World, J: Naming>(
     limits: Limits,
     shards: &[shard_run::ShardRecord],
     seats: Vec<ShardSeat<ShardLaw<W>, J>>,
-) -> Result<Vec<Arc<Shard<W, J>, Global>>, Refusal>
+) -> Result<Vec<Arc<Shard<W, J>, Global>>, AllocError>
     requires opens { IsOpening W.opening }
     requires limits { W.limits ≡ limits }
     requires most_rows { limits.rows ≤ 2 ^ 20 }
@@ -88,7 +85,6 @@ fn empty_shards<W: World, J: Naming>(
     requires few { length shards.now ≤ 64 }
     requires seats { seats.items ≡ take (length shards.now) (fresh_seats 64) }
     ensures ok { IfOk result (λ held. map (λ h. h.value) held.items ≡ map seat_of shards.now) }
-    ensures err { IfErr result (λ e. e ≡ Refusal.OutOfMemory) }
 {
     let mut seats = seats.into_iter();
     let mut held = Vec::new(alloc);
@@ -111,7 +107,7 @@ fn shards_and_seats<W: World, J: Naming>(
         Vec<Arc<Shard<W, J>, Global>>,
         Vec<ShardSeat<ShardLaw<W>, J>>,
     ),
-    Refusal,
+    AllocError,
 >
     requires opens { IsOpening W.opening }
     requires limits { W.limits ≡ limits }
@@ -124,15 +120,14 @@ fn shards_and_seats<W: World, J: Naming>(
     requires seats { seats.items ≡ fresh_seats 64 }
     ensures held { IfOk result (λ r. map (λ h. h.value) r.0.items ≡ map seat_of shards.now) }
     ensures free { IfOk result (λ r. r.1.items ≡ drop (length shards.now) (fresh_seats 64)) }
-    ensures err { IfErr result (λ e. e ≡ Refusal.OutOfMemory) }
 {
     let mut seats = seats;
     let free = seats.split_off(shards.len())?;
     match empty_shards(alloc, tables, limits, shards, seats) {
         Ok(held) => Ok((held, free)),
-        Err(refusal) => {
+        Err(error) => {
             drop(free);
-            Err(refusal)
+            Err(error)
         }
     }
 }
@@ -143,10 +138,9 @@ fn keyspace_parts<W: World, J: Naming>(
     keyspace: usize,
     shards: &[shard_run::ShardRecord],
     held: &[Arc<Shard<W, J>, Global>],
-) -> Result<Vec<ShardReference<Shard<W, J>>>, Refusal>
+) -> Result<Vec<ShardReference<Shard<W, J>>>, AllocError>
     requires held { map (λ h. h.value) held.now ≡ map seat_of shards.now }
     ensures ok { IfOk result (λ parts. parts.items ≡ map seat_of (filter (λ s. s.place.keyspace == keyspace) shards.now)) }
-    ensures err { IfErr result (λ e. e ≡ Refusal.OutOfMemory) }
 {
     let mut parts = Vec::new(alloc);
     for (i, shard) in shards.iter().enumerate() {
@@ -163,13 +157,12 @@ fn opening_keyspaces<W: World, J: Naming>(
     keyspaces: usize,
     shards: &[shard_run::ShardRecord],
     held: &[Arc<Shard<W, J>, Global>],
-) -> Result<Vec<Serving<Shard<W, J>>>, Refusal>
+) -> Result<Vec<Serving<Shard<W, J>>>, AllocError>
     requires opens { IsOpening W.opening }
     requires opening { opening_shards W.opening ≡ shards.now }
     requires each { keyspaces ≡ length W.opening.schema.keyspaces }
     requires held { map (λ h. h.value) held.now ≡ map seat_of shards.now }
     ensures each { IfOk result (λ all. all.items ≡ range_with_len 0 keyspaces) }
-    ensures err { IfErr result (λ e. e ≡ Refusal.OutOfMemory) }
 {
     let mut all = Vec::new(alloc);
     for keyspace in 0..keyspaces {
@@ -194,7 +187,7 @@ fn held_and_served<W: World, J: Naming>(
         Vec<Serving<Shard<W, J>>>,
         Vec<ShardSeat<ShardLaw<W>, J>>,
     ),
-    Refusal,
+    AllocError,
 >
     requires opens { IsOpening W.opening }
     requires limits { W.limits ≡ limits }
@@ -209,15 +202,14 @@ fn held_and_served<W: World, J: Naming>(
     ensures held { IfOk result (λ r. map (λ h. h.value) r.0.items ≡ map seat_of shards.now) }
     ensures each { IfOk result (λ r. r.1.items ≡ range_with_len 0 keyspaces) }
     ensures free { IfOk result (λ r. r.2.items ≡ drop (length shards.now) (fresh_seats 64)) }
-    ensures err { IfErr result (λ e. e ≡ Refusal.OutOfMemory) }
 {
     let (held, free) = shards_and_seats(alloc, tables, limits, shards, seats)?;
     match opening_keyspaces(alloc, keyspaces, shards, held.as_slice()) {
         Ok(all) => Ok((held, all, free)),
-        Err(refusal) => {
+        Err(error) => {
             drop(held);
             drop(free);
-            Err(refusal)
+            Err(error)
         }
     }
 }
@@ -238,7 +230,7 @@ pub fn opened_seats<W: World, J: Naming>(
         ShardPass<W, J>,
         Vec<ShardSeat<ShardLaw<W>, J>>,
     ),
-    Refusal,
+    AllocError,
 >
     requires name { opened ≡ J.table }
     requires opening { W.opening ≡ opening_of schema.now ranges.now }
@@ -253,7 +245,6 @@ pub fn opened_seats<W: World, J: Naming>(
     ensures opener { IfOk result (λ r. r.2 ≡ 0) }
     ensures pass { IfOk result (λ r. r.3 ≡ new_pass [] None) }
     ensures free { IfOk result (λ r. r.4.items ≡ drop (length (opening_shards W.opening)) (fresh_seats 64)) }
-    ensures err { IfErr result (λ e. e ≡ Refusal.OutOfMemory) }
 {
     let shards = opening_shards(alloc, schema, ranges)?;
     let (seats, opener, pass) = opened.named::<J>(alloc)?;
@@ -263,10 +254,10 @@ pub fn opened_seats<W: World, J: Naming>(
     drop(shards);
     match made {
         Ok((held, all, free)) => Ok((held, all, opener, pass, free)),
-        Err(refusal) => {
+        Err(error) => {
             drop(opener);
             drop(pass);
-            Err(refusal)
+            Err(error)
         }
     }
 }
@@ -277,6 +268,7 @@ pub fn opened_seats<W: World, J: Naming>(
 /// The engine over a VSchema and the ranges of its sharded keyspace, whose tables are empty, in the journal that was opened; the opener
 /// of its sessions, a first pass, which has seen nothing, and the seats of the slots on which none of its shards is. Each shard has these
 /// limits, and so many statements may wait in its buffer. It refuses only for want of memory.
+/// What it is made of comes from the program's words and its input, one by one.
 pub fn empty_router<W: World + Send + Sync, J: Naming + Send + Sync, G: Gate>(
     alloc: Global,
     schema: VSchema,
@@ -292,7 +284,7 @@ pub fn empty_router<W: World + Send + Sync, J: Naming + Send + Sync, G: Gate>(
         ShardPass<W, J>,
         Vec<ShardSeat<ShardLaw<W>, J>>,
     ),
-    Refusal,
+    AllocError,
 >
     requires name { opened ≡ J.table }
     requires opening { W.opening ≡ opening_of schema ranges.now }
@@ -306,7 +298,6 @@ pub fn empty_router<W: World + Send + Sync, J: Naming + Send + Sync, G: Gate>(
     ensures pass { IfOk result (λ r. r.2 ≡ new_pass [] None) }
     ensures opens { IfOk result (λ r. IsOpening W.opening) }
     ensures free { IfOk result (λ r. r.3.items ≡ drop (length (opening_shards W.opening)) (fresh_seats 64)) }
-    ensures err { IfErr result (λ e. e ≡ Refusal.OutOfMemory) }
 {
     let (held, keyspaces, opener, pass, free) = opened_seats::<W, J>(
         alloc, &schema, ranges, limits, opened,

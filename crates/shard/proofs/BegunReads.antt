@@ -1,9 +1,6 @@
 -- What a read answers once its shard's lock is given back is what the shard answers at its look.
-use Rattle.std.proofs.Common.{◌≡◌, ◌∙◌, ℕ, List, Result, Ok, Err, ap, sym, subst}
-use Rattle.std.specs.Prelude.{IfOk, IfErr, OnErr, MatchResult}
+use Rattle.std.proofs.Common.{◌≡◌, ◌∙◌, ℕ, List, ap, sym, subst}
 use Rattle.vt_value.specs.Values.{Row}
-use Rattle.vt_value.specs.declared.refusal.Refusal.{Refusal}
-use Rattle.vt_value.specs.declared.refusal.Refusal.TheVariants.{OutOfMemory}
 use Rattle.vschema.specs.declared.schema.Query.{Query}
 use Rattle.vschema.specs.declared.changes.RowChange.{RowChange}
 use Rattle.vschema.specs.Database.{Database, SameRows, all_applied}
@@ -17,11 +14,9 @@ use Rattle.shard_contents.specs.declared.outcomes.Reading.{Reading}
 use Rattle.shard_contents.specs.declared.outcomes.ReadOutcome.{ReadOutcome}
 use Rattle.shard_contents.specs.declared.outcomes.ReadOutcome.TheVariants.{Rows}
 use Rattle.shard_contents.specs.Shards.{AnswersQuery, read}
-use Rattle.shard_contents.specs.Transactions.{PendingView, HasReadIn, IsReadRefusal, touched_all}
-use Rattle.shard_contents.specs.Transactions as t
+use Rattle.shard_contents.specs.Transactions.{PendingView, HasReadIn, touched_all}
 use Rattle.shard_contents.proofs.Bags.{same_through, all_applied-same}
 use Rattle.shard.specs.declared.snapshot.Snapshot.{Snapshot}
-use Rattle.shard.specs.declared.snapshot.BegunRead.{BegunRead}
 use Rattle.shard.specs.declared.snapshot.BegunRead.TheVariants.{Answered, Begun}
 use Rattle.shard.specs.declared.snapshot.RowsIn.{RowsIn}
 use Rattle.shard.specs.declared.snapshot.RowsIn.TheVariants.{Selected, ToSelect}
@@ -40,12 +35,6 @@ module _ (o : Opening) (run : List Entry) (s : ShardRecord) (query : Query) wher
     allowed = same_allowed query taken.store.rows (shard_rows o run s) r.rows is.rows allowed;
     count = count ∙ is.count;
   })
-
-  -- what is answered of any look is so of this one
-  pub finished : (b : BegunRead) (r : Result ReadOutcome Refusal) → HasBegun o run s query b
-      → IfOk r (λ x. (o : Opening) (run : List Entry) (s : ShardRecord) → HasBegun o run s query b → AnswersQuery o run s query x) → IfOk r (AnswersQuery o run s query)
-  finished b (Ok x) has all = all o run s has
-  finished b (Err e) has all = tt
 
 -- ---- in a transaction
 
@@ -70,23 +59,3 @@ read_in_so o run s tx now query b rows entries is count touch has = record {
   count = count ∙ has.count;
   touch = touch ∙ ap (λ (k : ℕ). record tx { touched = touched_all tx.touched (source_tables query) k }) has.stored;
 }
-
-pub finished_in : (o : Opening) (run : List Entry) (s : ShardRecord) (tx now : PendingView) (query : Query) (b : BegunReadIn) (r : Result Reading Refusal)
-    → HasBegunIn o s tx run query b
-    → IfOk r (λ x. (o : Opening) (run : List Entry) (s : ShardRecord) → HasBegunIn o s tx run query b → HasReadIn o s tx run query x.rows x.entries now)
-    → IfOk r (λ x. HasReadIn o s tx run query x.rows x.entries now)
-finished_in o run s tx now query b (Ok x) has all = all o run s has
-finished_in o run s tx now query b (Err e) has all = tt
-
-pub refused_in : (o : Opening) (run : List Entry) (s : ShardRecord) (tx : PendingView) (r : Result Reading Refusal) → IfErr r (λ e. e ≡ OutOfMemory)
-    → IfErr r (IsReadRefusal o s run tx)
-refused_in o run s tx (Ok x) none = tt
-refused_in o run s tx (Err e) none = subst (IsReadRefusal o s run tx) (sym none) t.no_memory
-
-pub finished_whole : (o : Opening) (run : List Entry) (s : ShardRecord) (tx now : PendingView) (query : Query) (b : BegunReadIn) (r : Result Reading Refusal)
-    → HasBegunIn o s tx run query b
-    → IfOk r (λ x. (o : Opening) (run : List Entry) (s : ShardRecord) → HasBegunIn o s tx run query b → HasReadIn o s tx run query x.rows x.entries now)
-    → OnErr r (now ≡ tx) → IfErr r (λ e. e ≡ OutOfMemory)
-    → MatchResult r (λ x. HasReadIn o s tx run query x.rows x.entries now) (λ e. IsReadRefusal o s run tx e × (now ≡ tx))
-finished_whole o run s tx now query b (Ok x) has all unchanged none = all o run s has
-finished_whole o run s tx now query b (Err e) has all unchanged none = (refused_in o run s tx (Err e) none, unchanged)

@@ -26,7 +26,7 @@ use shard_contents::{
     first_named, is_reached, restricted_changes,
 };
 use shard_run::{Copied, Entry, Follow, Mode};
-use std::alloc::Global;
+use std::alloc::{AllocError, Global};
 use vschema::{Place, RowChange, VSchema};
 use vt_value::{Items, Refusal, Row};
 
@@ -168,14 +168,13 @@ impl<W: World, J: Naming> ShardState<W, J> {
         alloc: Global,
         schema: &VSchema,
         source: usize,
-    ) -> Result<Option<NextTable>, Refusal>
+    ) -> Result<Option<NextTable>, AllocError>
         requires schema { schema.now ≡ W.opening.schema }
         requires lives { mode W.opening self.now.seen self.now.shard.slot ≡ Mode.Retired → ⊥ }
         requires legal { IsLegal (MayFollow W.opening) self.now.seen }
         ensures next { IfOk result (λ next. MatchOption next (HasCopiedAll W.opening self.now.seen self.now.shard source)
             (λ n. IsNextTable W.opening self.now.seen self.now.shard source n.table
             × ((row : values.Row) → is_copied W.opening.schema self.now.seen self.now.shard.slot source n.table row ≡ is_reached (table_at W.opening.schema n.table) n.after row))) }
-        ensures err { IfErr result (λ e. e ≡ Refusal.OutOfMemory) }
     {
         let Some(table) = self.next_table(schema, source) else {
             return Ok(None);
@@ -194,12 +193,11 @@ impl<W: World, J: Naming> ShardState<W, J> {
         alloc: Global,
         schema: &VSchema,
         source: usize,
-    ) -> Result<SourceProgress, Refusal>
+    ) -> Result<SourceProgress, AllocError>
         requires schema { schema.now ≡ W.opening.schema }
         requires following { mode W.opening self.now.seen self.now.shard.slot ≡ Mode.Following }
         requires legal { IsLegal (MayFollow W.opening) self.now.seen }
         ensures progress { IfOk result (IsProgress W.opening self.now.seen self.now.shard source) }
-        ensures err { IfErr result (λ e. e ≡ Refusal.OutOfMemory) }
     {
         let stands_after = self.position_in(source);
         let next = self.next_rows(alloc, schema, source)?;
@@ -235,13 +233,12 @@ impl<W: World, J: Naming> ShardState<W, J> {
         alloc: Global,
         schema: &VSchema,
         taken: &Follow,
-    ) -> Result<Follow, Refusal>
+    ) -> Result<Follow, AllocError>
         requires schema { schema.now ≡ W.opening.schema }
         requires lives { mode W.opening self.now.seen self.now.shard.slot ≡ Mode.Retired → ⊥ }
         requires legal { IsLegal (MayFollow W.opening) self.now.seen }
         requires there { AllByRecursion (λ c. changed_table c < length schema.now.tables) taken.now.changes }
         ensures ok { IfOk result (λ f. f ≡ record taken.now { changes = filter (change_is_copied W.opening.schema self.now.seen self.now.shard.slot taken.now.source) taken.now.changes }) }
-        ensures err { IfErr result (λ e. e ≡ Refusal.OutOfMemory) }
     {
         let mut changes = Items::new(alloc);
         for change in taken.changes.as_slice() {
@@ -264,13 +261,12 @@ impl<W: World, J: Naming> ShardState<W, J> {
         schema: &VSchema,
         place: &Place,
         at: u64,
-    ) -> Result<Option<Follow>, Refusal>
+    ) -> Result<Option<Follow>, AllocError>
         requires schema { schema.now ≡ W.opening.schema }
         requires lives { mode W.opening self.now.seen self.now.shard.slot ≡ Mode.Retired → ⊥ }
         requires legal { IsLegal (MayFollow W.opening) self.now.seen }
         ensures entry { IfOk result (λ r. MatchOption r (length (stored_on self.now.shard.slot self.now.seen) ≤ at)
             (λ f. (f.log_position ≡ at) × IsEntryFor W.opening self.now.seen self.now.shard.slot place.now f)) }
-        ensures err { IfErr result (λ e. e ≡ Refusal.OutOfMemory) }
     {
         let stored = &self.contents.stored;
         if at >= stored.len() as u64 {
@@ -278,7 +274,7 @@ impl<W: World, J: Naming> ShardState<W, J> {
         }
         // No target meets this: the shard keeps its entries from the target's first Copy on, and the target stands at that or after it.
         let Some(entry) = stored.get(at as usize) else {
-            return Err(Refusal::OutOfMemory);
+            return Err(AllocError);
         };
         let changes = restricted_changes(alloc, schema, place, entry.changes())?;
         Ok(Some(Follow {
@@ -298,14 +294,13 @@ impl<W: World, J: Naming> ShardState<W, J> {
         schema: &VSchema,
         place: &Place,
         next: &NextTable,
-    ) -> Result<Copied, Refusal>
+    ) -> Result<Copied, AllocError>
         requires schema { schema.now ≡ W.opening.schema }
         requires formed { IsTrue (is_vschema W.opening.schema) }
         requires serves { answers_queries (mode W.opening self.old.seen self.old.shard.slot) ≡ true }
         requires legal { IsLegal (MayFollow W.opening) self.old.seen }
         requires there { next.now.table < length schema.now.tables }
         ensures copy { IfOk result (λ c. (c.table ≡ next.now.table) × IsCopyFor W.opening self.old.seen self.old.shard place.now next.now.after c) }
-        ensures err { IfErr result (λ e. e ≡ Refusal.OutOfMemory) }
         ensures unchanged { self.new ≡ self.old }
     {
         let source = self.slot();

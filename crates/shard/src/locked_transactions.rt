@@ -59,10 +59,12 @@ impl<W: World, J: Naming> Shard<W, J> {
             let mut state = self.own_state(rt);
             state.begin_read_in(alloc, pass, tx, query)
         };
-        begun?.finish(alloc, tx, query)
+        let reading = begun?.finish(alloc, tx, query)?;
+        Ok(reading)
     }
 
     /// Makes the changes of a write in a transaction under the shard's lock, as `ShardState::write_in`.
+    /// The clauses tell what became of the pass and the transaction's part, which are lent one by one.
     pub fn write_in(
         &self,
         rt: &impl Wait,

@@ -1,5 +1,5 @@
 //! A read of many rows: the look and a snapshot under the shard's lock, and the rows that the query gives once the lock is given back.
-ghost use Rattle.std.specs.Prelude.{◌≡◌, List, IfOk, IfErr, OnErr};
+ghost use Rattle.std.specs.Prelude.{◌≡◌, List, IfOk, OnErr};
 ghost use Rattle.vschema.specs.Sources.{source_rows};
 ghost use Rattle.sql_eval.specs.Groups.{CanBeSummed};
 ghost use Rattle.sql_eval.specs.Queries.{Allowed};
@@ -12,9 +12,9 @@ ghost use Rattle.shard.specs.inner.Snapshots.{HasBegun, HasBegunIn, HasRows, IsG
 
 use shard_contents::{Pending, ReadOutcome, Reading, select_in_transaction};
 use shard_store::StoredTables;
-use std::alloc::Global;
+use std::alloc::{AllocError, Global};
 use vschema::{Query, RowChange};
-use vt_value::{Items, Refusal, Row};
+use vt_value::{Items, Row};
 
 /// A read that looks at more rows of a table than so many has a snapshot of them, and the lock is given back before it looks.
 pub const MOST_ROWS_UNDER_LOCK: usize = 256;
@@ -35,11 +35,10 @@ pub enum BegunRead {
 
 impl Snapshot {
     // What the query gives over the rows.
-    fn select(&self, alloc: Global, query: &Query) -> Result<Reading, Refusal>
+    fn select(&self, alloc: Global, query: &Query) -> Result<Reading, AllocError>
         requires summed { CanBeSummed (source_rows query.now self.now.store.rows) }
         ensures rows { IfOk result (λ r. Allowed query.now self.now.store.rows r.rows) }
         ensures entries { IfOk result (λ r. r.entries ≡ self.now.entries) }
-        ensures err { IfErr result (λ e. e ≡ Refusal.OutOfMemory) }
     {
         let rows = self.store.select(alloc, query)?;
         Ok(Reading {
@@ -51,10 +50,9 @@ impl Snapshot {
 
 impl BegunRead {
     /// What the shard answers to the query, as of its look. Refuses only for want of memory.
-    pub fn finish(self, alloc: Global, query: &Query) -> Result<ReadOutcome, Refusal>
+    pub fn finish(self, alloc: Global, query: &Query) -> Result<ReadOutcome, AllocError>
         requires summed { IsSummable query.now self }
         ensures read { IfOk result (λ r. (o : Opening) (run : List Entry) (s : which.ShardRecord) → HasBegun o run s query.now self → AnswersQuery o run s query.now r) }
-        ensures err { IfErr result (λ e. e ≡ Refusal.OutOfMemory) }
     {
         match self {
             BegunRead::Answered(outcome) => Ok(outcome),
@@ -88,12 +86,11 @@ pub fn rows_in(
     alloc: Global,
     query: &Query,
     changes: &[RowChange],
-) -> Result<RowsIn, Refusal>
+) -> Result<RowsIn, AllocError>
     requires { IsReadable query.now changes.now store.old.rows }
     ensures rows { IfOk result (HasRows query.now changes.now store.old.rows) }
     ensures readable { IfOk result (IsToRead query.now changes.now) }
     ensures unchanged { store.new.rows ≡ store.old.rows }
-    ensures err { IfErr result (λ e. e ≡ Refusal.OutOfMemory) }
 {
     if store.scans(query, MOST_ROWS_UNDER_LOCK) {
         let snapshot = store.snapshot(alloc)?;
@@ -110,10 +107,9 @@ impl RowsIn {
         alloc: Global,
         query: &Query,
         changes: &[RowChange],
-    ) -> Result<Items<Row>, Refusal>
+    ) -> Result<Items<Row>, AllocError>
         requires readable { IsToRead query.now changes.now self }
         ensures ok { IfOk result (IsGivenBy query.now changes.now self) }
-        ensures err { IfErr result (λ e. e ≡ Refusal.OutOfMemory) }
     {
         match self {
             RowsIn::Selected(rows) => Ok(rows),
@@ -125,12 +121,16 @@ impl RowsIn {
 impl BegunReadIn {
     /// What the shard answers to the query in the transaction, as of its look. The tables that the query is over are touched then. Refuses
     /// only for want of memory; then the transaction stays as it was.
-    pub fn finish(self, alloc: Global, tx: &mut Pending, query: &Query) -> Result<Reading, Refusal>
+    pub fn finish(
+        self,
+        alloc: Global,
+        tx: &mut Pending,
+        query: &Query,
+    ) -> Result<Reading, AllocError>
         requires readable { IsToRead query.now tx.old.changes self.rows }
         ensures read { IfOk result (λ r. (o : Opening) (run : List Entry) (s : which.ShardRecord) → HasBegunIn o s tx.old run query.now self
             → HasReadIn o s tx.old run query.now r.rows r.entries tx.new) }
         ensures unchanged { OnErr result (tx.new ≡ tx.old) }
-        ensures err { IfErr result (λ e. e ≡ Refusal.OutOfMemory) }
     {
         let BegunReadIn {
             rows,

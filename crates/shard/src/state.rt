@@ -28,7 +28,7 @@ use shard_contents::{
 use shard_law::Limits;
 use shard_run::{Entry, Event, Follow, Mode, ShardRecord};
 use shard_store::StoredTables;
-use std::alloc::Global;
+use std::alloc::{AllocError, Global};
 use std::marker::Model;
 use std::mem::replace;
 use vschema::{Place, Query, VSchema, Write};
@@ -284,14 +284,13 @@ impl<W: World, J: Naming> ShardState<W, J> {
         alloc: Global,
         pass: &mut ShardPass<W, J>,
         query: &Query,
-    ) -> Result<Reading, Refusal>
+    ) -> Result<Reading, AllocError>
         requires serves { answers_queries (mode W.opening self.old.seen self.old.shard.slot) ≡ true }
         ensures seen { IsLater slot_of commit_of (MayFollow W.opening) (seat_view self.old) pass.old self.new.seen }
         ensures rows { IfOk result (λ r. Allowed query.now (shard_rows W.opening self.new.seen self.old.shard) r.rows) }
         ensures entries { IfOk result (λ r. r.entries ≡ length (entries_on self.old.shard.slot self.new.seen)) }
         ensures serves { answers_queries (mode W.opening self.new.seen self.old.shard.slot) ≡ true }
         ensures few { row_count (shard_rows W.opening self.new.seen self.old.shard) ≤ 2 ^ 20 }
-        ensures err { IfErr result (λ e. e ≡ Refusal.OutOfMemory) }
         ensures shard { self.new.shard ≡ self.old.shard }
         ensures stands { IsOnItsSlot W.opening self.new.seen self.old.shard }
         ensures pass { pass.new ≡ record pass.old { seen = self.new.seen; looks = pass.old.looks ++ (self.old.shard.slot, length self.new.seen) ∷ [] } }
@@ -302,12 +301,15 @@ impl<W: World, J: Naming> ShardState<W, J> {
     }
 
     // The rows of a shard that serves, as they are at a look.
-    fn snapshot(&mut self, alloc: Global, pass: &mut ShardPass<W, J>) -> Result<Snapshot, Refusal>
+    fn snapshot(
+        &mut self,
+        alloc: Global,
+        pass: &mut ShardPass<W, J>,
+    ) -> Result<Snapshot, AllocError>
         requires serves { answers_queries (mode W.opening self.old.seen self.old.shard.slot) ≡ true }
         ensures seen { IsLater slot_of commit_of (MayFollow W.opening) (seat_view self.old) pass.old self.new.seen }
         ensures snapshot { IfOk result (IsSnapshotAt W.opening self.new.seen self.old.shard) }
         ensures summed { IfOk result (λ t. (q : asked.Query) → CanBeSummed (source_rows q t.store.rows)) }
-        ensures err { IfErr result (λ e. e ≡ Refusal.OutOfMemory) }
         ensures shard { self.new.shard ≡ self.old.shard }
         ensures stands { IsOnItsSlot W.opening self.new.seen self.old.shard }
         ensures pass { pass.new ≡ record pass.old { seen = self.new.seen; looks = pass.old.looks ++ (self.old.shard.slot, length self.new.seen) ∷ [] } }
@@ -323,11 +325,10 @@ impl<W: World, J: Naming> ShardState<W, J> {
         alloc: Global,
         pass: &mut ShardPass<W, J>,
         query: &Query,
-    ) -> Result<BegunRead, Refusal>
+    ) -> Result<BegunRead, AllocError>
         ensures seen { IsLater slot_of commit_of (MayFollow W.opening) (seat_view self.old) pass.old self.new.seen }
         ensures begun { IfOk result (HasBegun W.opening self.new.seen self.old.shard query.now) }
         ensures summed { IfOk result (IsSummable query.now) }
-        ensures err { IfErr result (λ e. e ≡ Refusal.OutOfMemory) }
         ensures shard { self.new.shard ≡ self.old.shard }
         ensures stands { IsOnItsSlot W.opening self.new.seen self.old.shard }
         ensures pass { pass.new ≡ record pass.old { seen = self.new.seen; looks = pass.old.looks ++ (self.old.shard.slot, length self.new.seen) ∷ [] } }
@@ -354,16 +355,16 @@ impl<W: World, J: Naming> ShardState<W, J> {
         alloc: Global,
         pass: &mut ShardPass<W, J>,
         query: &Query,
-    ) -> Result<ReadOutcome, Refusal>
+    ) -> Result<ReadOutcome, AllocError>
         ensures seen { IsLater slot_of commit_of (MayFollow W.opening) (seat_view self.old) pass.old self.new.seen }
         ensures read { IfOk result (AnswersQuery W.opening self.new.seen self.old.shard query.now) }
-        ensures err { IfErr result (λ e. e ≡ Refusal.OutOfMemory) }
         ensures shard { self.new.shard ≡ self.old.shard }
         ensures stands { IsOnItsSlot W.opening self.new.seen self.old.shard }
         ensures pass { pass.new ≡ record pass.old { seen = self.new.seen; looks = pass.old.looks ++ (self.old.shard.slot, length self.new.seen) ∷ [] } }
     {
         let begun = self.begin_read(alloc, pass, query)?;
-        begun.finish(alloc, query)
+        let outcome = begun.finish(alloc, query)?;
+        Ok(outcome)
     }
 
     // Commits the write on a shard that takes it.

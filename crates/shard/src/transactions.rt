@@ -117,7 +117,8 @@ impl<W: World, J: Naming> ShardState<W, J> {
         ensures pass { pass.new ≡ record pass.old { seen = self.new.seen; looks = pass.old.looks ++ (self.old.shard.slot, length self.new.seen) ∷ [] } }
     {
         let begun = self.begin_read_in(alloc, pass, tx, query)?;
-        begun.finish(alloc, tx, query)
+        let reading = begun.finish(alloc, tx, query)?;
+        Ok(reading)
     }
 
     /// Makes the changes of a write in a transaction, over the rows that the run leaves on the shard at one look, which the pass keeps, and

@@ -1,10 +1,9 @@
 -- Readings are joined into a session's pass one after the other.
 use Rattle.std.specs.Prelude.{Contains}
 use Rattle.std.proofs.Common.{◌≡◌, ℕ, true, List, [], ◌∷◌, ◌++◌, map, flat_map, Ok, Result, sym, refl, ap, subst, inl, ◌∙◌}
-use Rattle.std.specs.List.{AllByRecursion}
 use Rattle.std.proofs.lemmas.List.{append-nil, append_assoc}
 use mathlib.Core.List.{IsPrefix}
-use Rattle.vt_value.specs.declared.refusal.Refusal.{Refusal}
+use Rattle.std.specs.declared.alloc.AllocError.{AllocError}
 use Rattle.vt_value.specs.Values.{Row}
 use Rattle.journal.specs.Runs.{IsLegal}
 use Rattle.journal.specs.Views.{PassView, IsLonger}
@@ -80,15 +79,15 @@ module _ (o : Opening) (p now new : PassView Entry) (pieces : List (List Row)) (
           longer.other;
       answered =
           AllByRecursion-push (λ x. is_read x.outcome ≡ true) so_far.front g so_far.is.answered
-          (subst (λ (r : Result ReadOutcome Refusal). is_read r ≡ true) (sym ok) refl);
+          (subst (λ (r : Result ReadOutcome AllocError). is_read r ≡ true) (sym ok) refl);
     };
     pieces_are =
         ap (λ (l : List (List Row)). l ++ reading.rows ∷ []) so_far.pieces_are
-        ∙ ap (λ (r : Result ReadOutcome Refusal). map given_rows so_far.front ++ Rattle.shard_calls.specs.inner.Scatter.outcome_rows r ∷ []) (sym ok)
+        ∙ ap (λ (r : Result ReadOutcome AllocError). map given_rows so_far.front ++ Rattle.shard_calls.specs.inner.Scatter.outcome_rows r ∷ []) (sym ok)
         ∙ sym (map-push given_rows so_far.front g);
     reads_are =
         ap (λ (l : List ShardRead). l ++ record { slot = g.slot; entries = reading.entries } ∷ []) so_far.reads_are
-        ∙ ap (λ (r : Result ReadOutcome Refusal). map given_read so_far.front ++ record { slot = g.slot; entries = Rattle.shard_calls.specs.inner.Scatter.entries_in r } ∷ []) (sym ok)
+        ∙ ap (λ (r : Result ReadOutcome AllocError). map given_read so_far.front ++ record { slot = g.slot; entries = Rattle.shard_calls.specs.inner.Scatter.entries_in r } ∷ []) (sym ok)
         ∙ sym (map-push given_read so_far.front g);
   }
 
@@ -141,10 +140,6 @@ module _ {X : Type 0} (f : X → ShardReply) (o : Opening) (p : PassView Entry) 
       → IsGathered o (map f all) p now × (pieces ≡ map given_rows (map f all)) × (reads ≡ map given_read (map f all))
   ends_at now pieces reads items all none so_far =
       ends o p now pieces reads (map f all) (subst (λ (l : List X). Gathers o p now pieces reads (map f l) (map f all)) none so_far)
-
--- what is so of each is so of the next and of the rest
-pub next_all : {X : Type 0} (P : X → Type 0) (items rest : List X) (x : X) → items ≡ x ∷ rest → AllByRecursion P items → P x × AllByRecursion P rest
-next_all P items rest x is all = subst (AllByRecursion P) is all
 
 pub map_twice : {X Y Z : Type 0} (f : Y → Z) (g : X → Y) (xs : List X) → map f (map g xs) ≡ map (λ x. f (g x)) xs
 map_twice f g [] = refl

@@ -28,7 +28,7 @@ use Rattle.shard_run.proofs.Sent.{entry_send}
 use Rattle.sql_tree.proofs.Condition.TheLaws.TheKnot as condition
 use Rattle.vschema.specs.contracts.schema.Query as query
 use Rattle.vschema.proofs.schema.Place.TheSendSync as place
-use Rattle.vt_value.proofs.refusal.Refusal.TheSendSync as refusal
+use Rattle.std.proofs.alloc.AllocError.TheSendSync as refused
 use Rattle.shard_contents.proofs.outcomes.ReadOutcome.TheSendSync as reading
 use Rattle.shard_calls.specs.contracts.pieces.Piece as piece
 use Rattle.shard_calls.specs.contracts.pieces.Piece.TheInside as piece_inside
@@ -84,4 +84,4 @@ module _ (W J : RattleType) (w : world.Ghosts W.Denot) (j : naming.Ghosts J.Deno
   pub done_send : IsSend (done.the_row W J w j)
   done_send =
       recorded_send (done.the_field W J w j).row _ _ (done.the_type W J w j).to_one
-      (struct_send (shape (done.the_type W J w j)) (search sendable, (pass_send, (search (reading.the_send, refusal.the_send, std.crosses, sendable), tt))))
+      (struct_send (shape (done.the_type W J w j)) (search sendable, (pass_send, (search (reading.the_send, refused.the_send, std.crosses, sendable), tt))))

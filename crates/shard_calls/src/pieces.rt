@@ -1,14 +1,14 @@
 //! What a shard is asked of a plan.
-ghost use Rattle.std.specs.Prelude.{◌≡◌, IfOk, IfErr};
+ghost use Rattle.std.specs.Prelude.{◌≡◌, IfOk};
 ghost use Rattle.planner.specs.Plans.{piece_of};
 ghost use Rattle.shard_calls.specs.inner.Pieces.{query_in};
 
 use keyrange::KeyRange;
 use planner::Plan;
-use std::alloc::Global;
+use std::alloc::{AllocError, Global};
 use std::marker::Model;
 use vschema::{Query, Table};
-use vt_value::{Boxed, Refusal};
+use vt_value::Boxed;
 
 /// The query that a shard is asked: the plan's, or one that was made for the shard. Contracts see the query.
 #[derive(Drop)]
@@ -57,9 +57,8 @@ pub(crate) fn piece_for<'e>(
     table: &Table,
     plan: &'e Plan,
     range: &KeyRange,
-) -> Result<Piece<'e>, Refusal>
+) -> Result<Piece<'e>, AllocError>
     ensures ok { IfOk result (λ piece. piece ≡ piece_of table.now plan.now range.now) }
-    ensures err { IfErr result (λ e. e ≡ Refusal.OutOfMemory) }
 {
     match plan.whole_piece() {
         Some(whole) => Ok(Piece { whole, own: None }),

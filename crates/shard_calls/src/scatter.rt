@@ -1,6 +1,6 @@
 //! The shards that a query needs, read at once in threads of their own.
-ghost use Rattle.std.specs.Prelude.{◌≡◌, ◌++◌, ◌∷◌, [], ℕ, IfOk, IfErr, OnOk, IfSome, IfNone, map, true};
-ghost use Rattle.std.specs.List.{AllZip, AllByRecursion};
+ghost use Rattle.std.specs.Prelude.{◌≡◌, ◌++◌, ◌∷◌, [], ℕ, IfOk, OnOk, IfSome, IfNone, map, true};
+ghost use Rattle.std.specs.List.{AllZip};
 ghost use Rattle.journal.specs.Runs.{IsLegal};
 ghost use Rattle.serving.specs.Partitions.{AreOf};
 ghost use Rattle.shard_law.specs.Entries.{MayFollow};
@@ -20,11 +20,11 @@ use serving::{Seated, ShardReference};
 use shard::{ReadOutcome, Reading, Shard, ShardPass, World};
 use shard_store::{Fixed, fixed_values, rows_by_limit};
 use sql_tree::Condition;
-use std::alloc::Global;
+use std::alloc::{AllocError, Global};
 use std::sync::Wait;
 use std::thread::{self, Threads};
 use vschema::{Query, Table};
-use vt_value::{Items, Refusal, Row};
+use vt_value::{Items, Row};
 
 /// What a shard is asked: its number among those that a query needs, itself, its piece of the query, how many rows that reads at most as far
 /// as it tells by itself, and a pass.
@@ -42,7 +42,7 @@ pub struct ReadJob<'e, W: World, J: Naming> {
 pub struct ReadResult<W: World, J: Naming> {
     pub slot: usize,
     pub pass: ShardPass<W, J>,
-    pub outcome: Result<ReadOutcome, Refusal>,
+    pub outcome: Result<ReadOutcome, AllocError>,
 }
 
 /// The rows that each shard gave, and what the reply says of each.
@@ -54,10 +54,9 @@ pub struct Gathered {
 
 impl Gathered {
     // What the next shard gave.
-    fn push(&mut self, alloc: Global, slot: usize, reading: Reading) -> Result<(), Refusal>
+    fn push(&mut self, alloc: Global, slot: usize, reading: Reading) -> Result<(), AllocError>
         ensures pieces { OnOk result (map ⟦<Rows as Operator>⟧.to_come self.new.pieces.items ≡ map ⟦<Rows as Operator>⟧.to_come self.old.pieces.items ++ reading.rows ∷ []) }
         ensures reads { OnOk result (self.new.reads ≡ self.old.reads ++ record { slot = slot; entries = reading.entries } ∷ []) }
-        ensures err { IfErr result (λ e. e ≡ Refusal.OutOfMemory) }
     {
         self.pieces.push(Rows::new(alloc, reading.rows)?)?;
         self.reads.push(ShardRead {
@@ -107,12 +106,11 @@ pub fn job_for<'e, W: World, J: Naming>(
     part: &'e ShardReference<Shard<W, J>>,
     table: &Table,
     plan: &'e Plan,
-) -> Result<ReadJob<'e, W, J>, Refusal>
+) -> Result<ReadJob<'e, W, J>, AllocError>
     requires keyspace { part.now.2 ≡ table.now.keyspace }
     ensures same { pass.new ≡ pass.old }
     ensures turn { IfOk result (λ job. job.turn ≡ turn) }
     ensures asks { IfOk result (λ job. record { slot = job.shard.now.0; place = place_at job.shard.now; query = job.query; pass = job.pass } ≡ asked table.now plan.now pass.old.seen part.now) }
-    ensures err { IfErr result (λ e. e ≡ Refusal.OutOfMemory) }
 {
     let range = part.range();
     let pass = pass.split()?;
@@ -124,9 +122,9 @@ pub fn job_for<'e, W: World, J: Naming>(
             query,
             pass,
         }),
-        Err(refusal) => {
+        Err(_) => {
             drop(pass);
-            Err(refusal)
+            Err(AllocError)
         }
     }
 }
@@ -137,12 +135,11 @@ pub fn point_job<'e, W: World, J: Naming>(
     part: &'e ShardReference<Shard<W, J>>,
     table: &Table,
     query: &'e Query,
-) -> Result<ReadJob<'e, W, J>, Refusal>
+) -> Result<ReadJob<'e, W, J>, AllocError>
     requires keyspace { part.now.2 ≡ table.now.keyspace }
     ensures same { pass.new ≡ pass.old }
     ensures asks { IfOk result (λ job. (plan : WrittenPlan) → piece_of table.now plan part.now.1 ≡ query.now
         → record { slot = job.shard.now.0; place = place_at job.shard.now; query = job.query; pass = job.pass } ≡ asked table.now plan pass.old.seen part.now) }
-    ensures err { IfErr result (λ e. e ≡ Refusal.OutOfMemory) }
 {
     let pass = pass.split()?;
     Ok(ReadJob {
@@ -161,12 +158,11 @@ pub fn jobs<'e, W: World, J: Naming>(
     parts: &'e [ShardReference<Shard<W, J>>],
     table: &Table,
     plan: &'e Plan,
-) -> Result<Vec<ReadJob<'e, W, J>>, Refusal>
+) -> Result<Vec<ReadJob<'e, W, J>>, AllocError>
     requires keyspace { AreOf table.now.keyspace parts.now }
     ensures same { pass.new ≡ pass.old }
     ensures ok { IfOk result (λ jobs. map (λ job. record { slot = job.shard.now.0; place = place_at job.shard.now; query = job.query; pass = job.pass }) jobs.items ≡ all_asked table.now plan.now pass.old.seen parts.now) }
     ensures turns { IfOk result (λ jobs. AreConsecutive 0 (map (λ job. job.turn) jobs.items)) }
-    ensures err { IfErr result (λ e. e ≡ Refusal.OutOfMemory) }
 {
     // Most plans need one shard: no room is made for more at first.
     let mut jobs = Vec::with_capacity(alloc, 1)?;
@@ -239,9 +235,8 @@ fn read_in_turn<W: World, J: Naming, G: Gate>(
     alloc: Global,
     gate: &G,
     jobs: Vec<ReadJob<W, J>>,
-) -> Result<Vec<ReadResult<W, J>>, Refusal>
+) -> Result<Vec<ReadResult<W, J>>, AllocError>
     ensures ok { IfOk result (λ done. AllZip (λ job d. IsReadingOf W.opening (record { slot = job.shard.now.0; place = place_at job.shard.now; query = job.query; pass = job.pass }) (record { slot = d.slot; pass = d.pass; outcome = d.outcome })) jobs.entry.items done.items) }
-    ensures err { IfErr result (λ e. e ≡ Refusal.OutOfMemory) }
 {
     let mut done = Vec::with_capacity(alloc, jobs.len())?;
     for job in jobs {
@@ -256,9 +251,8 @@ fn read_at_once<R: Threads + Wait + Sync, W: World + Send + Sync, J: Naming + Se
     alloc: Global,
     gate: &G,
     jobs: Vec<ReadJob<W, J>>,
-) -> Result<Vec<ReadResult<W, J>>, Refusal>
+) -> Result<Vec<ReadResult<W, J>>, AllocError>
     ensures ok { IfOk result (λ done. AllZip (λ job d. IsReadingOf W.opening (record { slot = job.shard.now.0; place = place_at job.shard.now; query = job.query; pass = job.pass }) (record { slot = d.slot; pass = d.pass; outcome = d.outcome })) jobs.entry.items done.items) }
-    ensures err { IfErr result (λ e. e ≡ Refusal.OutOfMemory) }
 {
     let done = thread::map_vec(
         rt,
@@ -282,9 +276,8 @@ fn read_some_at_once<
     gate: &G,
     jobs: Vec<ReadJob<W, J>>,
     most: usize,
-) -> Result<Vec<ReadResult<W, J>>, Refusal>
+) -> Result<Vec<ReadResult<W, J>>, AllocError>
     ensures ok { IfOk result (λ done. AllZip (λ job d. IsReadingOf W.opening (record { slot = job.shard.now.0; place = place_at job.shard.now; query = job.query; pass = job.pass }) (record { slot = d.slot; pass = d.pass; outcome = d.outcome })) jobs.entry.items done.items) }
-    ensures err { IfErr result (λ e. e ≡ Refusal.OutOfMemory) }
 {
     let mut done = Vec::with_capacity(alloc, jobs.len())?;
     let mut next = Vec::new(alloc);
@@ -314,9 +307,8 @@ pub fn read_all<R: Threads + Wait + Sync, W: World + Send + Sync, J: Naming + Se
     alloc: Global,
     gate: &G,
     jobs: Vec<ReadJob<W, J>>,
-) -> Result<Vec<ReadResult<W, J>>, Refusal>
+) -> Result<Vec<ReadResult<W, J>>, AllocError>
     ensures ok { IfOk result (λ done. AllZip (λ job d. IsReadingOf W.opening (record { slot = job.shard.now.0; place = place_at job.shard.now; query = job.query; pass = job.pass }) (record { slot = d.slot; pass = d.pass; outcome = d.outcome })) jobs.entry.items done.items) }
-    ensures err { IfErr result (λ e. e ≡ Refusal.OutOfMemory) }
 {
     if jobs.len() < 2 || are_small(jobs.as_slice(), gate.few_rows()) {
         return read_in_turn(rt, alloc, gate, jobs);
@@ -329,20 +321,18 @@ pub fn read_all<R: Threads + Wait + Sync, W: World + Send + Sync, J: Naming + Se
 }
 
 /// What the shards gave, with all that their passes have seen and their looks joined into the session's pass; nothing where one of them
-/// doesn't serve. Refuses where a shard refused, and for want of memory.
+/// doesn't serve. Refuses only for want of memory, a shard's too.
 pub fn gather<W: World, J: Naming>(
     alloc: Global,
     pass: &mut ShardPass<W, J>,
     done: Vec<ReadResult<W, J>>,
-) -> Result<Option<Gathered>, Refusal>
+) -> Result<Option<Gathered>, AllocError>
     requires legal { IsLegal (MayFollow W.opening) pass.old.seen }
-    requires refused { AllByRecursion (λ d. IfErr d.outcome (λ e. e ≡ Refusal.OutOfMemory)) done.items }
     ensures gone { HasGone W.opening pass.old pass.new }
     ensures all { IfOk result (λ r. IfSome r (λ g. IsGathered W.opening (map (λ d. record { slot = d.slot; pass = d.pass; outcome = d.outcome }) done.items) pass.old pass.new)) }
     ensures pieces { IfOk result (λ r. IfSome r (λ g. map ⟦<Rows as Operator>⟧.to_come g.pieces.items ≡ map (λ d. outcome_rows d.outcome) done.items)) }
     ensures reads { IfOk result (λ r. IfSome r (λ g. g.reads ≡ map (λ d. record { slot = d.slot; entries = entries_in d.outcome }) done.items)) }
     ensures stalled { IfOk result (λ r. IfNone r (IsStalled (map (λ d. record { slot = d.slot; pass = d.pass; outcome = d.outcome }) done.items) pass.new)) }
-    ensures err { IfErr result (λ e. e ≡ Refusal.OutOfMemory) }
 {
     let mut gathered = Gathered {
         pieces: Vec::new(alloc),
@@ -358,7 +348,7 @@ pub fn gather<W: World, J: Naming>(
         match outcome {
             Ok(ReadOutcome::Rows(reading)) => gathered.push(alloc, slot, reading)?,
             Ok(ReadOutcome::NotServing) => return Ok(None),
-            Err(refusal) => return Err(refusal),
+            Err(refused) => return Err(refused),
         }
     }
     Ok(Some(gathered))
@@ -376,15 +366,13 @@ pub fn gather_alone<W: World, J: Naming>(
     alloc: Global,
     pass: &mut ShardPass<W, J>,
     done: ReadResult<W, J>,
-) -> Result<Option<GatheredAlone>, Refusal>
+) -> Result<Option<GatheredAlone>, AllocError>
     requires legal { IsLegal (MayFollow W.opening) pass.old.seen }
-    requires refused { IfErr done.outcome (λ e. e ≡ Refusal.OutOfMemory) }
     ensures gone { HasGone W.opening pass.old pass.new }
     ensures all { IfOk result (λ r. IfSome r (λ g. IsGathered W.opening (record { slot = done.slot; pass = done.pass; outcome = done.outcome } ∷ []) pass.old pass.new)) }
     ensures rows { IfOk result (λ r. IfSome r (λ g. g.rows ≡ outcome_rows done.outcome)) }
     ensures reads { IfOk result (λ r. IfSome r (λ g. g.reads ≡ record { slot = done.slot; entries = entries_in done.outcome } ∷ [])) }
     ensures stalled { IfOk result (λ r. IfNone r (IsStalled (record { slot = done.slot; pass = done.pass; outcome = done.outcome } ∷ []) pass.new)) }
-    ensures err { IfErr result (λ e. e ≡ Refusal.OutOfMemory) }
 {
     let ReadResult {
         slot,
@@ -400,6 +388,6 @@ pub fn gather_alone<W: World, J: Naming>(
             Ok(Some(GatheredAlone { rows, reads }))
         }
         Ok(ReadOutcome::NotServing) => Ok(None),
-        Err(refusal) => Err(refusal),
+        Err(refused) => Err(refused),
     }
 }

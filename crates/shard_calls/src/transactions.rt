@@ -17,7 +17,7 @@ use journal::Naming;
 use operators::ShownRows;
 use shard::{Pending, Reading, ShardPass, World};
 use sql_eval::{Narrowed, select_local};
-use std::alloc::Global;
+use std::alloc::{AllocError, Global};
 use std::sync::Wait;
 use vschema::{Typed, VSchema, Write};
 use vt_value::{Items, Refusal};
@@ -54,10 +54,9 @@ fn prepared(
     alloc: Global,
     slot: usize,
     query: &Narrowed,
-) -> Result<(Option<Items<usize>>, Items<ShardRead>), Refusal>
+) -> Result<(Option<Items<usize>>, Items<ShardRead>), AllocError>
     ensures shows { IfOk result (λ r. ShowsAt query.now r.0) }
     ensures reads { IfOk result (λ r. r.1 ≡ record { slot = slot; entries = 0 } ∷ []) }
-    ensures err { IfErr result (λ e. e ≡ Refusal.OutOfMemory) }
 {
     let reads = Items::from_slice(alloc, &[ShardRead { slot, entries: 0 }])?;
     let ordinals = query.ordinals(alloc)?;
@@ -101,6 +100,7 @@ pub fn read_at<W: World, J: Naming>(
 }
 
 // What a query gives on the shard of a transaction that is bound to it then.
+// The clauses tell what became of the pass and the transaction, which are lent one by one.
 pub fn read_first<W: World, J: Naming>(
     rt: &impl Wait,
     alloc: Global,
@@ -147,6 +147,7 @@ pub fn read_nothing(
 }
 
 // How many rows a write changes on a transaction's shard, which keeps it.
+// The clauses tell what became of the pass and the transaction's part, which are lent one by one.
 pub fn write_at<W: World, J: Naming>(
     rt: &impl Wait,
     alloc: Global,
@@ -167,6 +168,7 @@ pub fn write_at<W: World, J: Naming>(
 }
 
 // Runs a write on the shard of a transaction that is bound to it then.
+// The clauses tell what became of the pass and the transaction, which are lent one by one.
 pub fn write_first<W: World, J: Naming>(
     rt: &impl Wait,
     alloc: Global,

@@ -1,13 +1,12 @@
 //! A session's transaction, as the engine keeps it.
-ghost use Rattle.std.specs.Prelude.{◌≡◌, ◌↔◌, IsTrue, IsSome, None, Some, IfOk, IfErr};
+ghost use Rattle.std.specs.Prelude.{◌≡◌, ◌↔◌, IsTrue, IsSome, None, Some, IfOk};
 ghost use Rattle.serving.specs.Partitions.{AreOf};
 
 use journal::Naming;
 use serving::{Partition, Seated, ShardReference, copy_part};
 use shard::{Pending, Shard, World};
-use std::alloc::Global;
+use std::alloc::{AllocError, Global};
 use std::marker::Model;
-use vt_value::Refusal;
 
 /// The shard that a transaction is bound to, its keyspace, and the partition by which a statement needed it. Contracts see a `BoundView`.
 #[derive(Drop)]
@@ -32,9 +31,8 @@ impl<W: World, J: Naming> Model for Bound<W, J> {
 fn copy_parts<S: Seated + Drop>(
     alloc: Global,
     parts: &[ShardReference<S>],
-) -> Result<Vec<ShardReference<S>>, Refusal>
+) -> Result<Vec<ShardReference<S>>, AllocError>
     ensures ok { IfOk result (λ copies. copies.items ≡ parts.now) }
-    ensures err { IfErr result (λ e. e ≡ Refusal.OutOfMemory) }
 {
     let mut copies = Vec::new(alloc);
     for part in parts {
@@ -50,11 +48,10 @@ impl<W: World, J: Naming> Bound<W, J> {
         keyspace: usize,
         partition: &Partition<Shard<W, J>>,
         part: &ShardReference<Shard<W, J>>,
-    ) -> Result<Bound<W, J>, Refusal>
+    ) -> Result<Bound<W, J>, AllocError>
         requires part { part.now.2 ≡ keyspace }
         requires keyspace { AreOf keyspace partition.now }
         ensures ok { IfOk result (λ bound. bound ≡ record { keyspace = keyspace; seat = part.now; seats = partition.now }) }
-        ensures err { IfErr result (λ e. e ≡ Refusal.OutOfMemory) }
     {
         let part = copy_part(part)?;
         match copy_parts(alloc, partition.parts()) {
@@ -63,9 +60,9 @@ impl<W: World, J: Naming> Bound<W, J> {
                 part,
                 partition: Partition::new(keyspace, parts),
             }),
-            Err(refusal) => {
+            Err(error) => {
                 drop(part);
-                Err(refusal)
+                Err(error)
             }
         }
     }

@@ -22,7 +22,7 @@ use crate::target_steps::{TargetStep, keep};
 use shard_law::{Limits, MOST_ENTRIES};
 use shard_run::{Commit, Entry, Event, Follow, Mode, ShardRecord};
 use shard_store::{KeyedChange, StoredTables};
-use std::alloc::Global;
+use std::alloc::{AllocError, Global};
 use vschema::{RowChange, VSchema, Write};
 use vt_value::{Items, Refusal};
 
@@ -81,9 +81,8 @@ fn commit_entry(
     statement_id: StatementId,
     statements: Items<Write>,
     changes: Items<RowChange>,
-) -> Result<Entry, Refusal>
+) -> Result<Entry, AllocError>
     ensures ok { (write : WrittenStatement) → statements ≡ write ∷ [] → IfOk result (λ e. e ≡ commit_entry shard.now statement_id.session statement_id.number write changes) }
-    ensures err { IfErr result (λ e. e ≡ Refusal.OutOfMemory) }
 {
     let shard = copy_shard(alloc, shard)?;
     let event = Event::Commit(Commit {
@@ -202,7 +201,7 @@ impl Contents {
     }
 
     /// Makes all memory of a following step; what the shard holds stays as it is.
-    pub fn prepare_follow(&mut self, alloc: Global, taken: Follow) -> Result<Prepared, Refusal>
+    pub fn prepare_follow(&mut self, alloc: Global, taken: Follow) -> Result<Prepared, AllocError>
         requires { AllByRecursion (λ c. changed_table c < length self.old.store.rows) taken.changes }
         ensures changes { IfOk result (λ p. held_changes p.entry.event ≡ taken.changes) }
         ensures entry { IfOk result (λ p. p.entry ≡ record { shard = self.old.shard; event = Event.Follow taken }) }
@@ -210,7 +209,6 @@ impl Contents {
         ensures ready { IfOk result (λ p. IsReadyFor self.new.store (held_changes p.entry.event) p.changes.items) }
         ensures one_more { IfOk result (λ p. HasPlaceFor self.new.stored p.kept) }
         ensures one_step { OnOk result (vec_len self.new.steps < vec_capacity self.new.steps) }
-        ensures err { IfErr result (λ e. e ≡ Refusal.OutOfMemory) }
         ensures shard { self.new.shard ≡ self.old.shard }
         ensures rows { self.new.store.rows ≡ self.old.store.rows }
         ensures mode { self.new.mode ≡ self.old.mode }

@@ -2,14 +2,13 @@
 ghost use Rattle.std.specs.Prelude.{◌≡◌, ◌∷◌, [], Ok, Err, IfOk, IfErr};
 
 use shard_run::ShardRecord;
-use std::alloc::Global;
+use std::alloc::{AllocError, Global};
 use vschema::{Place, RowChange};
-use vt_value::{Items, Refusal, copy_row};
+use vt_value::{Items, copy_row};
 
 /// An equal shard.
-pub fn copy_shard(alloc: Global, shard: &ShardRecord) -> Result<ShardRecord, Refusal>
+pub fn copy_shard(alloc: Global, shard: &ShardRecord) -> Result<ShardRecord, AllocError>
     ensures ok { IfOk result (λ s. s ≡ shard.now) }
-    ensures err { IfErr result (λ e. e ≡ Refusal.OutOfMemory) }
 {
     let sources = Items::from_slice(alloc, shard.sources.as_slice())?;
     let place = Place {
@@ -24,9 +23,8 @@ pub fn copy_shard(alloc: Global, shard: &ShardRecord) -> Result<ShardRecord, Ref
 }
 
 /// An equal change.
-pub fn copy_change(alloc: Global, change: &RowChange) -> Result<RowChange, Refusal>
+pub fn copy_change(alloc: Global, change: &RowChange) -> Result<RowChange, AllocError>
     ensures ok { IfOk result (λ c. c ≡ change.now) }
-    ensures err { IfErr result (λ e. e ≡ Refusal.OutOfMemory) }
 {
     match change {
         RowChange::Added(place, row) => Ok(RowChange::Added(*place, copy_row(alloc, row)?)),
@@ -39,9 +37,8 @@ pub fn copy_change(alloc: Global, change: &RowChange) -> Result<RowChange, Refus
 }
 
 /// Equal changes.
-pub fn copy_changes(alloc: Global, changes: &[RowChange]) -> Result<Vec<RowChange>, Refusal>
+pub fn copy_changes(alloc: Global, changes: &[RowChange]) -> Result<Vec<RowChange>, AllocError>
     ensures ok { IfOk result (λ v. v.items ≡ changes.now) }
-    ensures err { IfErr result (λ e. e ≡ Refusal.OutOfMemory) }
 {
     let mut copied = Vec::new(alloc);
     for change in changes {
@@ -51,9 +48,8 @@ pub fn copy_changes(alloc: Global, changes: &[RowChange]) -> Result<Vec<RowChang
 }
 
 /// A list of one item.
-pub fn one<T: Drop>(alloc: Global, item: T) -> Result<Items<T>, Refusal>
+pub fn one<T: Drop>(alloc: Global, item: T) -> Result<Items<T>, AllocError>
     ensures ok { IfOk result (λ items. items ≡ item ∷ []) }
-    ensures err { IfErr result (λ e. e ≡ Refusal.OutOfMemory) }
 {
     let mut items = Items::new(alloc);
     items.push(item)?;

@@ -1,5 +1,5 @@
 //! A Copy: which rows it takes, and its entry, made in memory before it is appended.
-ghost use Rattle.std.specs.Prelude.{◌≡◌, ◌<◌, ◌++◌, ◌∷◌, [], ◌&&◌, ◌==◌, None, IfOk, IfErr, IfSome, OnOk, map, length, option_copied, vec_len, vec_capacity};
+ghost use Rattle.std.specs.Prelude.{◌≡◌, ◌<◌, ◌++◌, ◌∷◌, [], ◌&&◌, ◌==◌, None, IfOk, IfSome, OnOk, map, length, option_copied, vec_len, vec_capacity};
 ghost use Rattle.std.specs.List.{AllByRecursion};
 ghost use Rattle.vschema.specs.declared.changes.RowChange as row;
 ghost use Rattle.vschema.specs.Database.{SameRows, all_applied, changed_table, changed_row, change_lies_in, restricted_changes};
@@ -21,9 +21,9 @@ use crate::target_steps::{TargetStep, keep};
 use shard_law::MOST_ENTRIES;
 use shard_run::{Copied, Entry, Event};
 use shard_store::{KeyedChange, SharedChange, SharedRow, StoredTables};
-use std::alloc::Global;
+use std::alloc::{AllocError, Global};
 use vschema::{Place, RowChange, VSchema};
-use vt_value::{Items, Refusal, Row, copy_row};
+use vt_value::{Items, Row, copy_row};
 
 /// The table that a target copies next from a source, by its ordinal in the VSchema, and the last row of it that the target has.
 #[derive(Drop)]
@@ -98,10 +98,9 @@ pub fn restricted_changes(
     schema: &VSchema,
     place: &Place,
     changes: &[SharedChange],
-) -> Result<Items<RowChange>, Refusal>
+) -> Result<Items<RowChange>, AllocError>
     requires { AllByRecursion (λ c. changed_table c < length schema.now.tables) changes.now }
     ensures ok { IfOk result (λ kept. kept ≡ restricted_changes schema.now place.now changes.now) }
-    ensures err { IfErr result (λ e. e ≡ Refusal.OutOfMemory) }
 {
     let mut kept = Items::new(alloc);
     for change in changes {
@@ -131,9 +130,8 @@ pub fn first_named(schema: &VSchema, n: usize, found: Option<usize>) -> usize
 }
 
 // An equal row.
-pub fn copied(alloc: Global, row: Option<&Row>) -> Result<Option<Row>, Refusal>
+pub fn copied(alloc: Global, row: Option<&Row>) -> Result<Option<Row>, AllocError>
     ensures ok { IfOk result (λ r. r ≡ option_copied row.entry) }
-    ensures err { IfErr result (λ e. e ≡ Refusal.OutOfMemory) }
 {
     match row {
         Some(row) => Ok(Some(copy_row(alloc, row)?)),
@@ -141,17 +139,15 @@ pub fn copied(alloc: Global, row: Option<&Row>) -> Result<Option<Row>, Refusal>
     }
 }
 
-fn last_row(alloc: Global, rows: &[Row]) -> Result<Option<Row>, Refusal>
+fn last_row(alloc: Global, rows: &[Row]) -> Result<Option<Row>, AllocError>
     ensures ok { IfOk result (λ last. last ≡ last_row rows.now) }
-    ensures err { IfErr result (λ e. e ≡ Refusal.OutOfMemory) }
 {
     copied(alloc, rows.last())
 }
 
 // The rows as changes that add them to a table.
-fn added(alloc: Global, table: usize, rows: &[Row]) -> Result<Vec<SharedChange>, Refusal>
+fn added(alloc: Global, table: usize, rows: &[Row]) -> Result<Vec<SharedChange>, AllocError>
     ensures ok { IfOk result (λ changes. changes.items ≡ map (row.RowChange.Added table) rows.now) }
-    ensures err { IfErr result (λ e. e ≡ Refusal.OutOfMemory) }
 {
     let mut changes = Vec::new(alloc);
     for row in rows {
@@ -175,11 +171,10 @@ fn prepare_rows(
     store: &mut StoredTables,
     table: usize,
     rows: &[Row],
-) -> Result<Vec<KeyedChange>, Refusal>
+) -> Result<Vec<KeyedChange>, AllocError>
     requires { table < length store.old.rows }
     ensures ready { IfOk result (λ keyed. IsReadyFor store.new (map (row.RowChange.Added table) rows.now) keyed.items) }
     ensures rows { store.new.rows ≡ store.old.rows }
-    ensures err { IfErr result (λ e. e ≡ Refusal.OutOfMemory) }
 {
     let changes = added(alloc, table, rows)?;
     store.prepare(alloc, changes.as_slice())
@@ -197,13 +192,12 @@ impl Contents {
     }
 
     // Makes all memory of a Copy; what the shard holds stays as it is.
-    pub fn prepare_copy(&mut self, alloc: Global, taken: Copied) -> Result<PreparedCopy, Refusal>
+    pub fn prepare_copy(&mut self, alloc: Global, taken: Copied) -> Result<PreparedCopy, AllocError>
         requires { taken.table < length self.old.store.rows }
         ensures entry { IfOk result (λ p. p.entry ≡ record { shard = self.old.shard; event = Event.Copy taken }) }
         ensures step { IfOk result (λ p. p.step ≡ TargetStep.Copied taken.source taken.table taken.log_position (is_last taken) (last_row taken.rows)) }
         ensures ready { IfOk result (λ p. IsReadyFor self.new.store (held_changes p.entry.event) p.changes.items) }
         ensures one_step { OnOk result (vec_len self.new.steps < vec_capacity self.new.steps) }
-        ensures err { IfErr result (λ e. e ≡ Refusal.OutOfMemory) }
         ensures shard { self.new.shard ≡ self.old.shard }
         ensures rows { self.new.store.rows ≡ self.old.store.rows }
         ensures mode { self.new.mode ≡ self.old.mode }

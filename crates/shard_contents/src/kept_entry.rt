@@ -1,12 +1,11 @@
 //! What a shard keeps of an entry that it has stored.
-ghost use Rattle.std.specs.Prelude.{◌≡◌, IfOk, IfErr};
+ghost use Rattle.std.specs.Prelude.{◌≡◌, IfOk};
 
 use shard_store::SharedChange;
-use std::alloc::Global;
+use std::alloc::{AllocError, Global};
 use std::marker::Model;
 use std::slice;
 use vschema::RowChange;
-use vt_value::Refusal;
 
 // Most entries change one row, and take no memory for a list.
 #[derive(Drop)]
@@ -16,9 +15,8 @@ enum Changes {
 }
 
 // Changes with equal rows, of which no other has them yet.
-fn shared(alloc: Global, changes: &[RowChange]) -> Result<Vec<SharedChange>, Refusal>
+fn shared(alloc: Global, changes: &[RowChange]) -> Result<Vec<SharedChange>, AllocError>
     ensures ok { IfOk result (λ list. list.items ≡ changes.now) }
-    ensures err { IfErr result (λ e. e ≡ Refusal.OutOfMemory) }
 {
     let mut list = Vec::with_capacity(alloc, changes.len())?;
     for change in changes {
@@ -50,9 +48,8 @@ impl Model for KeptEntry {
 
 impl KeptEntry {
     /// An entry with these changes, of which no other has the rows yet. Refuses for want of memory.
-    pub fn new(alloc: Global, changes: &[RowChange]) -> Result<KeptEntry, Refusal>
+    pub fn new(alloc: Global, changes: &[RowChange]) -> Result<KeptEntry, AllocError>
         ensures ok { IfOk result (λ e. e ≡ changes.now) }
-        ensures err { IfErr result (λ e. e ≡ Refusal.OutOfMemory) }
     {
         let changes = match changes {
             [change] => Changes::One(SharedChange::new(alloc, change)?),

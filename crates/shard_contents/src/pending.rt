@@ -1,5 +1,5 @@
 //! A transaction that isn't committed: what it has touched, for conflicts, and what it has written.
-ghost use Rattle.std.specs.Prelude.{◌≡◌, false, ◌↔◌, ◌++◌, ◌+◌, ◌<◌, ◌≤◌, ◌∷◌, [], IfOk, IfErr, OnOk, OnErr, length, vec_len, vec_capacity};
+ghost use Rattle.std.specs.Prelude.{◌≡◌, false, ◌↔◌, ◌++◌, ◌+◌, ◌<◌, ◌≤◌, ◌∷◌, [], OnOk, OnErr, length, vec_len, vec_capacity};
 ghost use Rattle.shard_contents.specs.Transactions.{nothing_done, is_touched, touched_with, touched_all};
 ghost use Rattle.shard_contents.specs.inner.LastChanges.{tells_change, tells_conflict};
 ghost use Rattle.vschema.specs.Sources.{source_tables};
@@ -7,10 +7,9 @@ ghost use Rattle.vschema.specs.Sources.{source_tables};
 use crate::copies::{copy_changes, with_owned};
 use crate::stored_entries::StoredEntries;
 use crate::touched_table::Touch;
-use std::alloc::Global;
+use std::alloc::{AllocError, Global};
 use std::marker::Model;
 use vschema::{Query, RowChange, Write};
-use vt_value::Refusal;
 
 /// A transaction on its one shard that isn't committed: the tables that it has touched, its writes in order, and the row changes that they
 /// make. Contracts see a `PendingView`.
@@ -57,14 +56,13 @@ fn append(
     writes: &mut Vec<Write>,
     changes: &mut Vec<RowChange>,
     more: &mut Vec<RowChange>,
-) -> Result<(), Refusal>
+) -> Result<(), AllocError>
     ensures touched { touched.new.items ≡ touched.old.items }
     ensures touch { OnOk result (vec_len touched.new < vec_capacity touched.new) }
     ensures writes { writes.new.items ≡ writes.old.items }
     ensures write { OnOk result (vec_len writes.new < vec_capacity writes.new) }
     ensures changes { OnOk result (changes.new.items ≡ changes.old.items ++ more.old.items) }
     ensures unchanged { OnErr result (changes.new.items ≡ changes.old.items) }
-    ensures err { IfErr result (λ e. e ≡ Refusal.OutOfMemory) }
 {
     touched.reserve(1)?;
     writes.reserve(1)?;
@@ -102,9 +100,8 @@ impl Pending {
 
     /// Touches the tables that a query is over, when the shard has stored so many entries. Refuses for want of memory; then nothing has
     /// changed.
-    pub fn touch(&mut self, query: &Query, stored: usize) -> Result<(), Refusal>
+    pub fn touch(&mut self, query: &Query, stored: usize) -> Result<(), AllocError>
         ensures ok { OnOk result (self.new ≡ record self.old { touched = touched_all self.old.touched (source_tables query.now) stored }) }
-        ensures err { IfErr result (λ e. e ≡ Refusal.OutOfMemory) }
         ensures unchanged { OnErr result (self.new ≡ self.old) }
     {
         self.touched.reserve(2)?;
@@ -134,9 +131,8 @@ impl Pending {
         touch: Touch,
         write: Write,
         changes: &[RowChange],
-    ) -> Result<(), Refusal>
+    ) -> Result<(), AllocError>
         ensures ok { OnOk result (self.new ≡ record { touched = touched_with self.old.touched touch; writes = self.old.writes ++ write ∷ []; changes = self.old.changes ++ changes.now }) }
-        ensures err { IfErr result (λ e. e ≡ Refusal.OutOfMemory) }
         ensures unchanged { OnErr result (self.new ≡ self.old) }
     {
         let (mut copied, write) = with_owned(copy_changes(alloc, changes), write)?;

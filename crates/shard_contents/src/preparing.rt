@@ -18,7 +18,7 @@ use crate::pending::Pending;
 use shard_law::MOST_ENTRIES;
 use shard_run::{Commit, Entry, Event};
 use shard_store::KeyedChange;
-use std::alloc::Global;
+use std::alloc::{AllocError, Global};
 use std::mem;
 use vschema::RowChange;
 use vt_value::{Items, Refusal};
@@ -97,12 +97,11 @@ impl Contents {
         &mut self,
         alloc: Global,
         changes: &[RowChange],
-    ) -> Result<(KeptEntry, Vec<KeyedChange>), Refusal>
+    ) -> Result<(KeptEntry, Vec<KeyedChange>), AllocError>
         requires { AllByRecursion (λ c. changed_table c < length self.old.store.rows) changes.now }
         ensures kept { IfOk result (λ r. r.0 ≡ changes.now) }
         ensures ready { IfOk result (λ r. IsReadyFor self.new.store changes.now r.1.items) }
         ensures one_more { IfOk result (λ r. HasPlaceFor self.new.stored r.0) }
-        ensures err { IfErr result (λ e. e ≡ Refusal.OutOfMemory) }
         ensures shard { self.new.shard ≡ self.old.shard }
         ensures rows { self.new.store.rows ≡ self.old.store.rows }
         ensures mode { self.new.mode ≡ self.old.mode }
@@ -150,7 +149,7 @@ impl Contents {
         let (kept, keyed) = self.make_room(alloc, tx.changes.as_slice())?;
         let shard = match copy_shard(alloc, &self.shard) {
             Ok(shard) => shard,
-            Err(e) => return Err(e),
+            Err(_) => return Err(Refusal::OutOfMemory),
         };
         let entry = Entry {
             shard,

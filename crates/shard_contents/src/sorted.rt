@@ -1,5 +1,5 @@
 //! Tables in the order of their primary keys, which a shard that stores them in another order keeps while they are copied to targets.
-ghost use Rattle.std.specs.Prelude.{◌≡◌, ◌<◌, ◌≤◌, ◌==◌, ◌++◌, ◌∷◌, [], IsSome, IfOk, IfErr, IfSome, OnOk, IsPermutation, true, option_copied, length, position};
+ghost use Rattle.std.specs.Prelude.{◌≡◌, ◌<◌, ◌≤◌, ◌==◌, ◌++◌, ◌∷◌, [], IsSome, IfOk, IfSome, OnOk, IsPermutation, true, option_copied, length, position};
 ghost use Rattle.vschema.specs.Database.{Database, rows_of, without, all_applied};
 ghost use Rattle.shard_store.specs.Slots.{slot_at};
 ghost use Rattle.shard_store.specs.Tables.{key_at};
@@ -17,10 +17,10 @@ use crate::stored_entries::StoredEntries;
 use shard_store::{
     AllRows, ChangedRows, RowKey, RowSource, SharedChange, SharedRow, StoredTables, TableRows,
 };
-use std::alloc::Global;
+use std::alloc::{AllocError, Global};
 use std::marker::Model;
 use vschema::{Place, Table};
-use vt_value::{Items, Refusal, Row, copy_row};
+use vt_value::{Items, Row, copy_row};
 
 /// The rows of a table in the order of its primary key, as they were when the shard had stored so many entries. Contracts see an
 /// `EarlierTable`.
@@ -40,12 +40,11 @@ impl Model for SortedTable {
 }
 
 // The key of a row, with memory to put the row in or to take it out.
-fn make_room(alloc: Global, rows: &mut TableRows, row: &Row) -> Result<RowKey, Refusal>
+fn make_room(alloc: Global, rows: &mut TableRows, row: &Row) -> Result<RowKey, AllocError>
     ensures rows { rows.new.rows ≡ rows.old.rows }
     ensures key { IfOk result (λ key. key.values ≡ key_at rows.new.ordinals row.now) }
     ensures room { OnOk result (0 < rows.new.room) }
     ensures ready { IfOk result (λ key. IsSome (slot_at rows.new.ready key)) }
-    ensures err { IfErr result (λ e. e ≡ Refusal.OutOfMemory) }
 {
     let key = rows.key_of(alloc, row)?;
     rows.make_room(alloc, &key, 1)?;
@@ -53,9 +52,8 @@ fn make_room(alloc: Global, rows: &mut TableRows, row: &Row) -> Result<RowKey, R
 }
 
 // Adds a copy of a row.
-fn add_copy(alloc: Global, rows: &mut TableRows, row: &Row) -> Result<(), Refusal>
+fn add_copy(alloc: Global, rows: &mut TableRows, row: &Row) -> Result<(), AllocError>
     ensures ok { OnOk result (IsPermutation rows.new.rows (rows.old.rows ++ row.now ∷ [])) }
-    ensures err { IfErr result (λ e. e ≡ Refusal.OutOfMemory) }
 {
     let key = make_room(alloc, rows, row)?;
     let row = SharedRow::new(alloc, copy_row(alloc, row)?)?;
@@ -64,9 +62,8 @@ fn add_copy(alloc: Global, rows: &mut TableRows, row: &Row) -> Result<(), Refusa
 }
 
 // Removes a row, if it is there, and gives up the slot of its key.
-fn remove(alloc: Global, rows: &mut TableRows, row: &Row) -> Result<(), Refusal>
+fn remove(alloc: Global, rows: &mut TableRows, row: &Row) -> Result<(), AllocError>
     ensures ok { OnOk result (IsPermutation rows.new.rows (without row.now rows.old.rows)) }
-    ensures err { IfErr result (λ e. e ≡ Refusal.OutOfMemory) }
 {
     rows.reserve_freed(1)?;
     let key = make_room(alloc, rows, row)?;
@@ -77,9 +74,8 @@ fn remove(alloc: Global, rows: &mut TableRows, row: &Row) -> Result<(), Refusal>
 }
 
 // Does a change of one of these rows, with a copy of the row that it puts in.
-fn change(alloc: Global, rows: &mut TableRows, change: &SharedChange) -> Result<(), Refusal>
+fn change(alloc: Global, rows: &mut TableRows, change: &SharedChange) -> Result<(), AllocError>
     ensures ok { OnOk result (IsPermutation rows.new.rows (row_after change.now rows.old.rows)) }
-    ensures err { IfErr result (λ e. e ≡ Refusal.OutOfMemory) }
 {
     match change.rows() {
         ChangedRows::Added(_, row) => add_copy(alloc, rows, row.get()),
@@ -97,10 +93,9 @@ fn change_all(
     table: usize,
     rows: &mut TableRows,
     changes: &[SharedChange],
-) -> Result<(), Refusal>
+) -> Result<(), AllocError>
     ensures ok { OnOk result ((db : Database) → table < length db → IsPermutation rows.old.rows (rows_of db table)
         → IsPermutation rows.new.rows (rows_of (all_applied changes.now db) table)) }
-    ensures err { IfErr result (λ e. e ≡ Refusal.OutOfMemory) }
 {
     for done in changes {
         if done.table() == table {
@@ -116,10 +111,9 @@ fn change_by(
     table: usize,
     rows: &mut TableRows,
     entries: &[KeptEntry],
-) -> Result<(), Refusal>
+) -> Result<(), AllocError>
     ensures ok { OnOk result ((db : Database) → table < length db → IsPermutation rows.old.rows (rows_of db table)
         → IsPermutation rows.new.rows (rows_of (all_applied (changes_by entries.now) db) table)) }
-    ensures err { IfErr result (λ e. e ≡ Refusal.OutOfMemory) }
 {
     for entry in entries {
         change_all(alloc, table, rows, entry.changes())?;
@@ -128,10 +122,9 @@ fn change_by(
 }
 
 // Adds copies of rows to a table without rows.
-fn add_copies(alloc: Global, rows: &mut TableRows, all: AllRows<'_>) -> Result<(), Refusal>
+fn add_copies(alloc: Global, rows: &mut TableRows, all: AllRows<'_>) -> Result<(), AllocError>
     requires { rows.old.rows ≡ [] }
     ensures ok { OnOk result (IsPermutation rows.new.rows all.entry) }
-    ensures err { IfErr result (λ e. e ≡ Refusal.OutOfMemory) }
 {
     let mut all = all;
     while let Some(row) = all.next_row() {
@@ -148,10 +141,9 @@ impl SortedTable {
         place: usize,
         table: &Table,
         stored: usize,
-    ) -> Result<SortedTable, Refusal>
+    ) -> Result<SortedTable, AllocError>
         requires { place < length store.now.rows }
         ensures ok { IfOk result (IsCurrentTable place stored store.now.rows) }
-        ensures err { IfErr result (λ e. e ≡ Refusal.OutOfMemory) }
     {
         let key = Items::from_slice(alloc, table.primary_key.as_slice())?;
         let mut rows = TableRows::new(alloc, key);
@@ -164,14 +156,13 @@ impl SortedTable {
     }
 
     // Brings the rows forward by the entries that were stored since.
-    fn bring_forward(&mut self, alloc: Global, stored: &StoredEntries) -> Result<(), Refusal>
+    fn bring_forward(&mut self, alloc: Global, stored: &StoredEntries) -> Result<(), AllocError>
         requires there { stored.now.log.first ≤ self.old.stored }
         requires within { self.old.stored ≤ count_of stored.now.log }
         ensures table { self.new.table ≡ self.old.table }
         ensures stored { OnOk result (self.new.stored ≡ count_of stored.now.log) }
         ensures rows { OnOk result ((db : Database) → self.old.table < length db → IsPermutation self.old.rows (rows_of db self.old.table)
             → IsPermutation self.new.rows (rows_of (all_applied (changes_by (stored_since stored.now.log self.old.stored)) db) self.old.table)) }
-        ensures err { IfErr result (λ e. e ≡ Refusal.OutOfMemory) }
     {
         let since = stored.since(self.stored);
         change_by(alloc, self.table, &mut self.rows, since)?;
@@ -186,9 +177,8 @@ impl SortedTable {
         place: &Place,
         table: &Table,
         last: Option<&Row>,
-    ) -> Result<Vec<Row>, Refusal>
+    ) -> Result<Vec<Row>, AllocError>
         ensures ok { IfOk result (λ first. AreFirst table.now (is_left_to_copy place.now table.now (option_copied last.entry)) self.now.rows first.items) }
-        ensures err { IfErr result (λ e. e ≡ Refusal.OutOfMemory) }
     {
         let rows = self.rows.rows_after(alloc, table, last)?;
         first_wanted(alloc, place, table, last, rows)
@@ -250,12 +240,11 @@ impl SortedTables {
         contents: &Contents,
         place: usize,
         table: &Table,
-    ) -> Result<SortedTable, Refusal>
+    ) -> Result<SortedTable, AllocError>
         requires there { place < length contents.now.store.rows }
         requires had { AllHadRows contents.now.stored.log contents.now.store.rows self.old }
         ensures had { AllHadRows contents.now.stored.log contents.now.store.rows self.new }
         ensures ok { IfOk result (IsCurrentTable place (count_of contents.now.stored.log) contents.now.store.rows) }
-        ensures err { IfErr result (λ e. e ≡ Refusal.OutOfMemory) }
     {
         match self.take(place) {
             Some(mut sorted) => {
@@ -267,9 +256,8 @@ impl SortedTables {
     }
 
     // Keeps a table of which so many rows were copied last, unless these were the last of all.
-    fn keep(&mut self, sorted: SortedTable, copied: usize) -> Result<(), Refusal>
+    fn keep(&mut self, sorted: SortedTable, copied: usize) -> Result<(), AllocError>
         ensures had { (log : StoredLog) (now : Database) → HadRows log now sorted → AllHadRows log now self.old → AllHadRows log now self.new }
-        ensures err { IfErr result (λ e. e ≡ Refusal.OutOfMemory) }
     {
         if copied < COPY_STEP {
             return Ok(());
@@ -287,13 +275,12 @@ impl SortedTables {
         place: &Place,
         table: &Table,
         next: &NextTable,
-    ) -> Result<Vec<Row>, Refusal>
+    ) -> Result<Vec<Row>, AllocError>
         requires there { next.now.table < length contents.now.store.rows }
         requires followed { contents.now.stored.log.is_followed ≡ true }
         requires had { AllHadRows contents.now.stored.log contents.now.store.rows self.old }
         ensures had { AllHadRows contents.now.stored.log contents.now.store.rows self.new }
         ensures ok { IfOk result (λ first. AreFirst table.now (is_left_to_copy place.now table.now next.now.after) (rows_of contents.now.store.rows next.now.table) first.items) }
-        ensures err { IfErr result (λ e. e ≡ Refusal.OutOfMemory) }
     {
         let sorted = self.take_current(alloc, contents, next.table, table)?;
         let first = sorted.first_wanted(alloc, place, table, next.after.as_ref())?;
@@ -313,13 +300,12 @@ impl Contents {
         place: &Place,
         table: &Table,
         next: &NextTable,
-    ) -> Result<Vec<Row>, Refusal>
+    ) -> Result<Vec<Row>, AllocError>
         requires there { next.now.table < length self.now.store.rows }
         requires followed { self.now.stored.log.is_followed ≡ true }
         requires had { AllHadRows self.now.stored.log self.now.store.rows sorted.old }
         ensures had { AllHadRows self.now.stored.log self.now.store.rows sorted.new }
         ensures ok { IfOk result (λ first. AreFirst table.now (is_left_to_copy place.now table.now next.now.after) (rows_of self.now.store.rows next.now.table) first.items) }
-        ensures err { IfErr result (λ e. e ≡ Refusal.OutOfMemory) }
     {
         let last = next.after.as_ref();
         let rows = self.store.rows_after(alloc, next.table, table, last)?;

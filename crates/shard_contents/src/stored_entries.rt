@@ -1,6 +1,6 @@
 //! The entries that a shard has stored: how many, and what they changed, from the time on when somebody follows the shard. Of each table they
 //! tell how many there were when it was last changed, so a transaction's conflicts are found without the entries.
-ghost use Rattle.std.specs.Prelude.{◌≡◌, ◌==◌, ◌-◌, ◌+◌, ◌<◌, ◌≤◌, ◌^◌, ◌⊎◌, true, ℕ, if◌then◌else◌, IfErr, MatchOption, OnOk, Some, slice_get, vec_len, vec_capacity};
+ghost use Rattle.std.specs.Prelude.{◌≡◌, ◌==◌, ◌-◌, ◌+◌, ◌<◌, ◌≤◌, ◌^◌, ◌⊎◌, true, ℕ, if◌then◌else◌, MatchOption, OnOk, Some, slice_get, vec_len, vec_capacity};
 ghost use Rattle.std.specs.List.{AllByRecursion};
 ghost use Rattle.vschema.specs.Database.{changed_table};
 ghost use Rattle.shard_contents.specs.inner.KeptConflicts.{keeps_table};
@@ -10,9 +10,8 @@ ghost use Rattle.shard_contents.specs.inner.StoredLogs.{HasPlaceFor, HasStoredNe
 use crate::kept_entry::KeptEntry;
 use crate::touched_table::Touch;
 use shard_store::SharedChange;
-use std::alloc::Global;
+use std::alloc::{AllocError, Global};
 use std::marker::Model;
-use vt_value::Refusal;
 
 /// The entries that a shard has stored, in order. While nobody follows the shard none is kept, since nobody asks for it. Contracts see a
 /// `StoredView`.
@@ -57,11 +56,10 @@ fn last_change(last_changed: &[usize], ordinal: usize) -> usize
 }
 
 // Makes memory for the table at an ordinal. Refuses for want of it.
-fn reserve_table(last_changed: &mut Vec<usize>, ordinal: usize) -> Result<(), Refusal>
+fn reserve_table(last_changed: &mut Vec<usize>, ordinal: usize) -> Result<(), AllocError>
     ensures same { last_changed.new.items ≡ last_changed.old.items }
     ensures larger { vec_capacity last_changed.old ≤ vec_capacity last_changed.new }
     ensures ok { OnOk result (ordinal < vec_capacity last_changed.new) }
-    ensures err { IfErr result (λ e. e ≡ Refusal.OutOfMemory) }
 {
     let len = last_changed.len();
     if ordinal < len {
@@ -72,15 +70,14 @@ fn reserve_table(last_changed: &mut Vec<usize>, ordinal: usize) -> Result<(), Re
             last_changed.reserve(more)?;
             Ok(())
         }
-        None => Err(Refusal::OutOfMemory),
+        None => Err(AllocError),
     }
 }
 
 // Makes memory for the tables of the changes. Refuses for want of it.
-fn reserve_tables(last_changed: &mut Vec<usize>, changes: &[SharedChange]) -> Result<(), Refusal>
+fn reserve_tables(last_changed: &mut Vec<usize>, changes: &[SharedChange]) -> Result<(), AllocError>
     ensures same { last_changed.new.items ≡ last_changed.old.items }
     ensures ok { OnOk result (AllByRecursion (λ c. changed_table c < vec_capacity last_changed.new) changes.now) }
-    ensures err { IfErr result (λ e. e ≡ Refusal.OutOfMemory) }
 {
     for change in changes {
         reserve_table(last_changed, change.table())?;
@@ -182,9 +179,8 @@ impl StoredEntries {
     }
 
     // Makes memory to keep one more, if somebody follows.
-    fn reserve_one(&mut self) -> Result<(), Refusal>
+    fn reserve_one(&mut self) -> Result<(), AllocError>
         ensures ok { OnOk result (self.new.log.is_followed ≡ true → 0 < self.new.room) }
-        ensures err { IfErr result (λ e. e ≡ Refusal.OutOfMemory) }
         ensures log { self.new.log ≡ self.old.log }
     {
         if !self.is_followed {
@@ -195,16 +191,16 @@ impl StoredEntries {
     }
 
     /// Makes memory for one more. Refuses for want of it.
-    pub fn reserve(&mut self, kept: &KeptEntry) -> Result<(), Refusal>
+    pub fn reserve(&mut self, kept: &KeptEntry) -> Result<(), AllocError>
         ensures ok { OnOk result (HasPlaceFor self.new kept.now) }
-        ensures err { IfErr result (λ e. e ≡ Refusal.OutOfMemory) }
         ensures log { self.new.log ≡ self.old.log }
     {
         if self.len() == usize::MAX {
-            return Err(Refusal::OutOfMemory);
+            return Err(AllocError);
         }
         self.reserve_one()?;
-        reserve_tables(&mut self.last_changed, kept.changes())
+        reserve_tables(&mut self.last_changed, kept.changes())?;
+        Ok(())
     }
 
     /// Adds one for which memory was made. It is kept if somebody follows. Takes no memory.

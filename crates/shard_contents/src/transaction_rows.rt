@@ -18,7 +18,7 @@ use crate::store::changed_table;
 use shard_store::{Overlay, StoredTables, same_key, select_joined};
 use sql_eval::{change_local, keeps};
 use sql_tree::Condition;
-use std::alloc::Global;
+use std::alloc::{AllocError, Global};
 use vschema::{Join, Query, RowChange, Table, VSchema, Write};
 use vt_value::{Items, Refusal, Row};
 
@@ -85,9 +85,8 @@ fn add_wanted<'a>(
     rows: &mut Overlay<'a>,
     wanted: RowSelection<'_>,
     row: &'a Row,
-) -> Result<(), Refusal>
+) -> Result<(), AllocError>
     ensures ok { OnOk result (filter (is_selected wanted.entry) rows.new.rows ≡ filter (is_selected wanted.entry) (rows.old.rows ++ row.now ∷ [])) }
-    ensures err { IfErr result (λ e. e ≡ Refusal.OutOfMemory) }
 {
     if wanted.wants(row) {
         return rows.add(row);
@@ -101,9 +100,8 @@ fn remove_wanted<'a>(
     rows: &mut Overlay<'a>,
     wanted: RowSelection<'_>,
     row: &'a Row,
-) -> Result<(), Refusal>
+) -> Result<(), AllocError>
     ensures ok { OnOk result (filter (is_selected wanted.entry) rows.new.rows ≡ filter (is_selected wanted.entry) (without row.now rows.old.rows)) }
-    ensures err { IfErr result (λ e. e ≡ Refusal.OutOfMemory) }
 {
     if wanted.wants(row) {
         return rows.remove(alloc, row);
@@ -117,9 +115,8 @@ fn change_wanted<'a>(
     rows: &mut Overlay<'a>,
     wanted: RowSelection<'_>,
     change: &'a RowChange,
-) -> Result<(), Refusal>
+) -> Result<(), AllocError>
     ensures ok { OnOk result (filter (is_selected wanted.entry) rows.new.rows ≡ filter (is_selected wanted.entry) (row_after change.now rows.old.rows)) }
-    ensures err { IfErr result (λ e. e ≡ Refusal.OutOfMemory) }
 {
     match change {
         RowChange::Added(_, row) => add_wanted(rows, wanted, row),
@@ -138,10 +135,9 @@ fn overlaid_rows<'a>(
     ordinal: usize,
     changes: &'a [RowChange],
     wanted: RowSelection<'_>,
-) -> Result<Overlay<'a>, Refusal>
+) -> Result<Overlay<'a>, AllocError>
     requires { ordinal < length store.now.rows }
     ensures ok { IfOk result (λ overlaid. filter (is_selected wanted.entry) overlaid.rows ≡ filter (is_selected wanted.entry) (rows_of (all_applied changes.now store.now.rows) ordinal)) }
-    ensures err { IfErr result (λ e. e ≡ Refusal.OutOfMemory) }
 {
     let mut overlaid = store.overlay(alloc, ordinal)?;
     for change in changes {
@@ -158,10 +154,9 @@ fn all_overlaid<'a>(
     store: &'a StoredTables,
     ordinal: usize,
     changes: &'a [RowChange],
-) -> Result<Overlay<'a>, Refusal>
+) -> Result<Overlay<'a>, AllocError>
     requires { ordinal < length store.now.rows }
     ensures ok { IfOk result (λ overlaid. overlaid.rows ≡ rows_of (all_applied changes.now store.now.rows) ordinal) }
-    ensures err { IfErr result (λ e. e ≡ Refusal.OutOfMemory) }
 {
     overlaid_rows(alloc, store, ordinal, changes, RowSelection::All)
 }
@@ -174,11 +169,10 @@ fn keyed_overlaid<'a>(
     changes: &'a [RowChange],
     table: &Table,
     new: &[Row],
-) -> Result<Overlay<'a>, Refusal>
+) -> Result<Overlay<'a>, AllocError>
     requires { ordinal < length store.now.rows }
     ensures ok { IfOk result (λ overlaid. list_any (λ n. list_any (λ r. same_row (key_of table.now n) (key_of table.now r)) overlaid.rows) new.now
         ≡ list_any (λ n. list_any (λ r. same_row (key_of table.now n) (key_of table.now r)) (rows_of (all_applied changes.now store.now.rows) ordinal)) new.now) }
-    ensures err { IfErr result (λ e. e ≡ Refusal.OutOfMemory) }
 {
     overlaid_rows(
         alloc,
@@ -201,11 +195,10 @@ fn rows_for<'a>(
     changes: &'a [RowChange],
     table: &Table,
     new: &[Row],
-) -> Result<Overlay<'a>, Refusal>
+) -> Result<Overlay<'a>, AllocError>
     requires { ordinal < length store.now.rows }
     ensures ok { IfOk result (λ overlaid. list_any (λ n. list_any (λ r. same_row (key_of table.now n) (key_of table.now r)) overlaid.rows) new.now
         ≡ list_any (λ n. list_any (λ r. same_row (key_of table.now n) (key_of table.now r)) (rows_of (all_applied changes.now store.now.rows) ordinal)) new.now) }
-    ensures err { IfErr result (λ e. e ≡ Refusal.OutOfMemory) }
 {
     if are_many(new) {
         return all_overlaid(alloc, store, ordinal, changes);
@@ -219,16 +212,15 @@ fn select_one_in_transaction(
     store: &StoredTables,
     query: &Query,
     changes: &[RowChange],
-) -> Result<Items<Row>, Refusal>
+) -> Result<Items<Row>, AllocError>
     requires there { query.now.table < length store.now.rows }
     requires few { length (rows_of store.now.rows query.now.table) ≤ 2 ^ 60 }
     requires summed { is_aggregated query.now ≡ true → length (rows_of (all_applied changes.now store.now.rows) query.now.table) ≤ 2 ^ 60
         → CanBeSummed (rows_of (all_applied changes.now store.now.rows) query.now.table) }
     ensures ok { IfOk result (IsAnswer query.now (rows_of (all_applied changes.now store.now.rows) query.now.table)) }
-    ensures err { IfErr result (λ e. e ≡ Refusal.OutOfMemory) }
 {
     if store.row_count_of(query.table) + changes.len() > MOST_ROWS {
-        return Err(Refusal::OutOfMemory);
+        return Err(AllocError);
     }
     let wanted = RowSelection::Kept(&query.filter);
     let overlaid = overlaid_rows(alloc, store, query.table, changes, wanted)?;
@@ -242,14 +234,13 @@ fn select_pairs_in_transaction(
     query: &Query,
     join: Join,
     changes: &[RowChange],
-) -> Result<Items<Row>, Refusal>
+) -> Result<Items<Row>, AllocError>
     requires first { query.now.table < length store.now.rows }
     requires second { join.table < length store.now.rows }
     requires summed { is_aggregated query.now ≡ true
         → length (pairs_of join (rows_of (all_applied changes.now store.now.rows) query.now.table) (rows_of (all_applied changes.now store.now.rows) join.table)) ≤ 2 ^ 60
         → CanBeSummed (pairs_of join (rows_of (all_applied changes.now store.now.rows) query.now.table) (rows_of (all_applied changes.now store.now.rows) join.table)) }
     ensures ok { IfOk result (IsAnswer query.now (pairs_of join (rows_of (all_applied changes.now store.now.rows) query.now.table) (rows_of (all_applied changes.now store.now.rows) join.table))) }
-    ensures err { IfErr result (λ e. e ≡ Refusal.OutOfMemory) }
 {
     let firsts = overlaid_rows(alloc, store, query.table, changes, RowSelection::All)?;
     let seconds = overlaid_rows(alloc, store, join.table, changes, RowSelection::All)?;
@@ -262,13 +253,12 @@ pub fn select_in_transaction(
     store: &StoredTables,
     query: &Query,
     changes: &[RowChange],
-) -> Result<Items<Row>, Refusal>
+) -> Result<Items<Row>, AllocError>
     requires there { SourcesThere (length store.now.rows) query.now }
     requires few { length (source_rows query.now store.now.rows) ≤ 2 ^ 60 }
     requires summed { is_aggregated query.now ≡ true → length (source_rows query.now (all_applied changes.now store.now.rows)) ≤ 2 ^ 60
         → CanBeSummed (source_rows query.now (all_applied changes.now store.now.rows)) }
     ensures ok { IfOk result (IsAnswer query.now (source_rows query.now (all_applied changes.now store.now.rows))) }
-    ensures err { IfErr result (λ e. e ≡ Refusal.OutOfMemory) }
 {
     if !changes_source(query, changes) {
         return store.select(alloc, query);
@@ -281,6 +271,7 @@ pub fn select_in_transaction(
 
 impl Contents {
     // What a write without new rows does.
+    // Of the write, ordinal and condition are handed over as its caller found them.
     fn changed_in_transaction(
         &self,
         alloc: Global,
@@ -303,6 +294,7 @@ impl Contents {
     }
 
     // What a write with new rows does.
+    // Of the write, ordinal and rows are handed over as its caller found them.
     fn inserted_in_transaction(
         &self,
         alloc: Global,
@@ -322,7 +314,7 @@ impl Contents {
         match overlaid.has_any_key(alloc, table, new) {
             Ok(true) => Err(Refusal::DuplicateKey),
             Ok(false) => change_local(alloc, table, write, &[]),
-            Err(e) => Err(e),
+            Err(_) => Err(Refusal::OutOfMemory),
         }
     }
 

@@ -1,5 +1,5 @@
 //! Rows that are looked up by the value of one of their columns.
-ghost use Rattle.std.specs.Prelude.{◌≡◌, ◌+◌, ◌<◌, ◌++◌, [], IfOk, IfErr, IfSome, MatchOption, OnOk, IsPermutation, filter, length, true, false, IsTrue};
+ghost use Rattle.std.specs.Prelude.{◌≡◌, ◌+◌, ◌<◌, ◌++◌, [], IfOk, IfSome, MatchOption, OnOk, IsPermutation, filter, length, true, false, IsTrue};
 ghost use Rattle.std.specs.List.{AllByRecursion};
 ghost use Rattle.std.specs.Ordering.{is_lt};
 ghost use Rattle.vt_value.specs.Values.{value_at, value_cmp};
@@ -10,10 +10,10 @@ use crate::primary::value_at;
 use crate::table::StoredTable;
 use crate::walk::ChosenSlots;
 use sql_eval::RowSource;
-use std::alloc::Global;
+use std::alloc::{AllocError, Global};
 use std::marker::Model;
 use vschema::Join;
-use vt_value::{Refusal, Row, Value, sort_order};
+use vt_value::{Row, Value, sort_order};
 
 /// Rows that are looked up by the value of one of their columns. Contracts see the column and the rows.
 #[derive(Drop)]
@@ -75,9 +75,11 @@ impl<'a, 'b> RowSource<'a> for RowsFound<'a, 'b> {
 }
 
 /// The rows that a source lends. Refuses for want of memory.
-pub(crate) fn all_of<'a, S: RowSource<'a>>(alloc: Global, rows: S) -> Result<Vec<&'a Row>, Refusal>
+pub(crate) fn all_of<'a, S: RowSource<'a>>(
+    alloc: Global,
+    rows: S,
+) -> Result<Vec<&'a Row>, AllocError>
     ensures ok { IfOk result (λ list. rows_lent list.items ≡ S.to_come rows) }
-    ensures err { IfErr result (λ e. e ≡ Refusal.OutOfMemory) }
 {
     let mut rows = rows;
     let mut list = Vec::new(alloc);
@@ -87,10 +89,9 @@ pub(crate) fn all_of<'a, S: RowSource<'a>>(alloc: Global, rows: S) -> Result<Vec
     Ok(list)
 }
 
-fn sort_by_value(rows: &mut Vec<&Row>, column: usize) -> Result<(), Refusal>
+fn sort_by_value(rows: &mut Vec<&Row>, column: usize) -> Result<(), AllocError>
     ensures permutation { IsPermutation rows.old.items rows.new.items }
     ensures sorted { OnOk result (Rises column rows.new.items) }
-    ensures err { IfErr result (λ e. e ≡ Refusal.OutOfMemory) }
 {
     let null = Value::Null;
     rows.sort_by(|a, b| sort_order(value_at(a, column, &null), value_at(b, column, &null)))?;
@@ -125,10 +126,9 @@ fn slots_with<'a>(
     alloc: Global,
     stored: Option<&'a StoredTable>,
     value: &'a Value,
-) -> Result<Option<ChosenSlots<'a>>, Refusal>
+) -> Result<Option<ChosenSlots<'a>>, AllocError>
     requires { IfSome stored (λ t. 0 < length t.now.ordinals) }
     ensures ok { IfOk result (λ slots. slots_left slots ≡ stored_with value.now stored.entry) }
-    ensures err { IfErr result (λ e. e ≡ Refusal.OutOfMemory) }
 {
     match stored {
         Some(table) => {
@@ -164,11 +164,10 @@ impl<'a> RowsByValue<'a> {
         column: usize,
         stored: Option<&'a StoredTable>,
         others: S,
-    ) -> Result<RowsByValue<'a>, Refusal>
+    ) -> Result<RowsByValue<'a>, AllocError>
         requires { StoredBy column stored }
         ensures column { IfOk result (λ r. r.column ≡ column) }
         ensures rows { IfOk result (λ r. IsPermutation r.rows (stored_rows stored.entry ++ S.to_come others)) }
-        ensures err { IfErr result (λ e. e ≡ Refusal.OutOfMemory) }
     {
         let mut sorted = all_of(alloc, others)?;
         sort_by_value(&mut sorted, column)?;
@@ -201,9 +200,8 @@ impl<'a> RowsByValue<'a> {
     }
 
     // The rows that have a value.
-    fn with<'b>(&'b self, alloc: Global, value: &'a Value) -> Result<RowsFound<'a, 'b>, Refusal>
+    fn with<'b>(&'b self, alloc: Global, value: &'a Value) -> Result<RowsFound<'a, 'b>, AllocError>
         ensures ok { IfOk result (λ rows. rows ≡ filter (has_value self.now.column value.now) self.now.rows) }
-        ensures err { IfErr result (λ e. e ≡ Refusal.OutOfMemory) }
     {
         let slots = slots_with(alloc, self.stored, value)?;
         let others = from_value(self.sorted.as_slice(), self.column, value);
@@ -221,9 +219,8 @@ impl<'a> RowsByValue<'a> {
         alloc: Global,
         join: Join,
         first: &'a Row,
-    ) -> Result<RowsFound<'a, 'b>, Refusal>
+    ) -> Result<RowsFound<'a, 'b>, AllocError>
         ensures ok { IfOk result (λ rows. filter (is_pair join first.now) rows ≡ filter (is_pair join first.now) self.now.rows) }
-        ensures err { IfErr result (λ e. e ≡ Refusal.OutOfMemory) }
     {
         if !joins_by(join, self.column) {
             return Ok(self.all());

@@ -1,6 +1,6 @@
 //! Queries over the pairs of rows of two tables. For each row of the first table, its partners are looked up by their value, so no other
 //! pair is ever looked at.
-ghost use Rattle.std.specs.Prelude.{◌≡◌, ◌≤◌, ◌^◌, ◌++◌, ◌∷◌, [], true, IfOk, IfErr, MatchOption, filter, length};
+ghost use Rattle.std.specs.Prelude.{◌≡◌, ◌≤◌, ◌^◌, ◌++◌, ◌∷◌, [], true, IfOk, MatchOption, filter, length};
 ghost use Rattle.vschema.specs.Checks.{is_aggregated};
 ghost use Rattle.vschema.specs.Sources.{is_pair, pairs_of};
 ghost use Rattle.sql_eval.specs.Groups.{CanBeSummed};
@@ -13,9 +13,9 @@ use crate::by_value::{RowsByValue, RowsFound};
 use crate::pushdown::{own_conjuncts, passes};
 use sql_eval::{PairSource, RowSource, Seen, copy_seen, is_pair, select_local, select_pairs};
 use sql_tree::Condition;
-use std::alloc::Global;
+use std::alloc::{AllocError, Global};
 use vschema::{Join, Query};
-use vt_value::{Items, Refusal, Row};
+use vt_value::{Items, Row};
 
 // More rows than memory can hold. The sums of a query are known to fit up to here.
 const MOST_ROWS: usize = 1 << 60;
@@ -107,7 +107,7 @@ impl<'a, 'b, S: RowSource<'a>> PairSource<'a> for JoinedPairs<'a, 'b, S> {
 
     ghost to_come = { λ p. current_pairs p.join p.partners ++ pairs_of p.join (filter (passes p.own.items) (S.to_come p.firsts)) p.seconds.now.rows };
 
-    fn next_pair(&mut self, alloc: Global) -> Result<Option<Seen<'a>>, Refusal> {
+    fn next_pair(&mut self, alloc: Global) -> Result<Option<Seen<'a>>, AllocError> {
         loop {
             if let Some(pair) = next_of_partners(self.join, &mut self.partners) {
                 return Ok(Some(pair));
@@ -122,9 +122,8 @@ impl<'a, 'b, S: RowSource<'a>> PairSource<'a> for JoinedPairs<'a, 'b, S> {
     }
 }
 
-fn copy_all<'a, S: PairSource<'a>>(alloc: Global, pairs: S) -> Result<Items<Row>, Refusal>
+fn copy_all<'a, S: PairSource<'a>>(alloc: Global, pairs: S) -> Result<Items<Row>, AllocError>
     ensures ok { IfOk result (λ list. list ≡ S.to_come pairs) }
-    ensures err { IfErr result (λ e. e ≡ Refusal.OutOfMemory) }
 {
     let mut pairs = pairs;
     let mut list = Items::new(alloc);
@@ -139,14 +138,13 @@ fn select_groups<'a, S: PairSource<'a>>(
     alloc: Global,
     query: &Query,
     pairs: S,
-) -> Result<Items<Row>, Refusal>
+) -> Result<Items<Row>, AllocError>
     requires summed { length (S.to_come pairs) ≤ 2 ^ 60 → CanBeSummed (S.to_come pairs) }
     ensures ok { IfOk result (IsAnswer query.now (S.to_come pairs)) }
-    ensures err { IfErr result (λ e. e ≡ Refusal.OutOfMemory) }
 {
     let pairs = copy_all(alloc, pairs)?;
     if pairs.len() > MOST_ROWS {
-        return Err(Refusal::OutOfMemory);
+        return Err(AllocError);
     }
     select_local(alloc, query, pairs.as_slice())
 }
@@ -159,11 +157,10 @@ pub fn select_by_value<'a, 'b, S: RowSource<'a>>(
     join: Join,
     firsts: S,
     seconds: &'b RowsByValue<'a>,
-) -> Result<Items<Row>, Refusal>
+) -> Result<Items<Row>, AllocError>
     requires summed { is_aggregated query.now ≡ true → length (pairs_of join (S.to_come firsts) seconds.now.rows) ≤ 2 ^ 60
         → CanBeSummed (pairs_of join (S.to_come firsts) seconds.now.rows) }
     ensures ok { IfOk result (IsAnswer query.now (pairs_of join (S.to_come firsts) seconds.now.rows)) }
-    ensures err { IfErr result (λ e. e ≡ Refusal.OutOfMemory) }
 {
     if query.is_aggregated() {
         let pairs = JoinedPairs::new(join, Vec::new(alloc), firsts, seconds);
@@ -181,11 +178,10 @@ pub fn select_joined<'a, S: RowSource<'a>, T: RowSource<'a>>(
     join: Join,
     firsts: S,
     seconds: T,
-) -> Result<Items<Row>, Refusal>
+) -> Result<Items<Row>, AllocError>
     requires summed { is_aggregated query.now ≡ true → length (pairs_of join (S.to_come firsts) (T.to_come seconds)) ≤ 2 ^ 60
         → CanBeSummed (pairs_of join (S.to_come firsts) (T.to_come seconds)) }
     ensures ok { IfOk result (IsAnswer query.now (pairs_of join (S.to_come firsts) (T.to_come seconds))) }
-    ensures err { IfErr result (λ e. e ≡ Refusal.OutOfMemory) }
 {
     let column = join.second.saturating_sub(join.width);
     let seconds = RowsByValue::new(alloc, column, None, seconds)?;

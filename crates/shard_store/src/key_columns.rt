@@ -1,5 +1,5 @@
 //! By which columns a table's rows are stored. The vindex column comes first, so that a lookup by it walks few rows.
-ghost use Rattle.std.specs.Prelude.{◌≡◌, IsTrue, IfOk, IfErr, List};
+ghost use Rattle.std.specs.Prelude.{◌≡◌, IsTrue, IfOk, List};
 ghost use Rattle.vt_value.specs.declared.value.Value.{Value};
 ghost use Rattle.vschema.specs.Schema.{key_of};
 ghost use Rattle.vschema.specs.Database.{same_row};
@@ -7,9 +7,9 @@ ghost use Rattle.vschema.specs.Checks.{has_number};
 ghost use Rattle.shard_store.specs.Tables.{key_at};
 ghost use Rattle.shard_store.specs.Places.{vindex_ordinals, key_ordinals, is_vindex_in_key};
 
-use std::alloc::Global;
+use std::alloc::{AllocError, Global};
 use vschema::Table;
-use vt_value::{Items, Refusal};
+use vt_value::Items;
 
 fn is_vindex_column(table: &Table, ordinal: usize) -> bool
     ensures { result ≡ has_number (vindex_ordinals table.now.vindex) ordinal }
@@ -23,11 +23,10 @@ fn is_vindex_column(table: &Table, ordinal: usize) -> bool
 /// The ordinals of the columns by whose values a table's rows are stored: the vindex column first, so that the rows of one of its
 /// values are adjacent, and then the others of the primary key. Rows have the same values there if they have the same
 /// primary key. Refuses for want of memory.
-pub fn key_ordinals(alloc: Global, table: &Table) -> Result<Items<usize>, Refusal>
+pub fn key_ordinals(alloc: Global, table: &Table) -> Result<Items<usize>, AllocError>
     ensures ok { IfOk result (λ ordinals. ordinals ≡ key_ordinals table.now) }
     ensures keys { IsTrue (is_vindex_in_key table.now) → (a b : List Value)
         → same_row (key_at (key_ordinals table.now) a) (key_at (key_ordinals table.now) b) ≡ same_row (key_of table.now a) (key_of table.now b) }
-    ensures err { IfErr result (λ e. e ≡ Refusal.OutOfMemory) }
 {
     let mut ordinals = Items::new(alloc);
     if let Some(vindex) = &table.vindex {

@@ -1,5 +1,5 @@
 //! The values of a key.
-ghost use Rattle.std.specs.Prelude.{◌≡◌, ◌∷◌, [], IfOk, IfErr};
+ghost use Rattle.std.specs.Prelude.{◌≡◌, ◌∷◌, [], IfOk};
 ghost use Rattle.std.specs.Cmp.Lexicographic.{slice_cmp};
 ghost use Rattle.vt_value.specs.Values.{value_at, value_cmp};
 ghost use Rattle.shard_store.specs.Slots.{begins};
@@ -12,7 +12,7 @@ use row_chunks::Same;
 use std::alloc::{AllocError, Global};
 use std::cmp::Ordering;
 use std::marker::Model;
-use vt_value::{Items, Refusal, Row, Value, sort_order};
+use vt_value::{Items, Row, Value, sort_order};
 
 // One number of 64 bits is here itself, so that such keys are made and compared without memory of their own, and many of them
 // are in one line of the processor's cache.
@@ -114,16 +114,14 @@ fn compare_listings(a: &Listing, b: &Listing) -> Ordering
     }
 }
 
-fn listing_of(alloc: Global, values: Row) -> Result<Listing, Refusal>
+fn listing_of(alloc: Global, values: Row) -> Result<Listing, AllocError>
     ensures ok { IfOk result (λ listing. listed listing ≡ values) }
-    ensures err { IfErr result (λ e. e ≡ Refusal.OutOfMemory) }
 {
     Ok(Listing::Values(SharedRow::new(alloc, values)?))
 }
 
-fn listing_of_one(alloc: Global, value: Value) -> Result<Listing, Refusal>
+fn listing_of_one(alloc: Global, value: Value) -> Result<Listing, AllocError>
     ensures ok { IfOk result (λ listing. listed listing ≡ value ∷ []) }
-    ensures err { IfErr result (λ e. e ≡ Refusal.OutOfMemory) }
 {
     let mut values = Items::new(alloc);
     values.push(value)?;
@@ -132,18 +130,16 @@ fn listing_of_one(alloc: Global, value: Value) -> Result<Listing, Refusal>
 
 impl KeyValues {
     /// These values. Refuses for want of memory.
-    pub fn new(alloc: Global, values: Row) -> Result<KeyValues, Refusal>
+    pub fn new(alloc: Global, values: Row) -> Result<KeyValues, AllocError>
         ensures ok { IfOk result (λ k. k ≡ values) }
-        ensures err { IfErr result (λ e. e ≡ Refusal.OutOfMemory) }
     {
         let listing = listing_of(alloc, values)?;
         Ok(KeyValues { listing })
     }
 
     /// One value alone. Refuses for want of memory.
-    pub fn of_one(alloc: Global, value: Value) -> Result<KeyValues, Refusal>
+    pub fn of_one(alloc: Global, value: Value) -> Result<KeyValues, AllocError>
         ensures ok { IfOk result (λ values. values ≡ value ∷ []) }
-        ensures err { IfErr result (λ e. e ≡ Refusal.OutOfMemory) }
     {
         let listing = match &value {
             Value::Int(number) => match i64::try_from(*number) {

@@ -1,5 +1,5 @@
 //! Walks over the rows in slots of a table that aren't gone.
-ghost use Rattle.std.specs.Prelude.{◌≡◌, ◌∷◌, [], IfOk, IfErr, IfSome, MatchOption, filter};
+ghost use Rattle.std.specs.Prelude.{◌≡◌, ◌∷◌, [], IfOk, IfSome, MatchOption, filter};
 ghost use Rattle.std.specs.List.{AllByRecursion, list_any};
 ghost use Rattle.vschema.specs.Database.{same_row};
 ghost use Rattle.sql_eval.specs.Conditions.{is_kept};
@@ -18,8 +18,8 @@ use crate::walk::ChosenSlots;
 use row_chunks::Walk;
 use sql_eval::RowSource;
 use sql_tree::Condition;
-use std::alloc::Global;
-use vt_value::{Refusal, Row};
+use std::alloc::{AllocError, Global};
+use vt_value::Row;
 
 /// Rows in slots that are still to come, in the order of their keys.
 #[derive(Drop)]
@@ -35,10 +35,9 @@ pub fn slots_left<'a>(
     alloc: Global,
     stored: &'a StoredTable,
     condition: &'a Option<Condition<usize>>,
-) -> Result<SlotsLeft<'a>, Refusal>
+) -> Result<SlotsLeft<'a>, AllocError>
     ensures ok { IfOk result (λ slots. filter (is_kept condition.now) (rows_left slots) ≡ filter (is_kept condition.now) (rows_in stored.now.slots)) }
     ensures keyed { IfOk result (AreKeyed stored.now.ordinals) }
-    ensures err { IfErr result (λ e. e ≡ Refusal.OutOfMemory) }
 {
     match stored.chosen(alloc, condition)? {
         ChosenSlots::All(_) => Ok(SlotsLeft::All(stored.slots())),

@@ -1,6 +1,6 @@
 //! The rows of a table with changes that the table does not have: those in its slots without some, and others. Only the rows that the
 //! changes name are held here, so what is made costs as the changes do, and what is read as the rows do, however many changes there are.
-ghost use Rattle.std.specs.Prelude.{◌≡◌, ◌<◌, ◌||◌, ◌++◌, ◌∷◌, [], IsTrue, IsSorted, IfOk, IfErr, OnOk, List, filter, length, position, true};
+ghost use Rattle.std.specs.Prelude.{◌≡◌, ◌<◌, ◌||◌, ◌++◌, ◌∷◌, [], IsTrue, IsSorted, IfOk, OnOk, List, filter, length, position, true};
 ghost use Rattle.std.specs.List.{list_any};
 ghost use Rattle.vt_value.specs.declared.value.Value.{Value as V};
 ghost use Rattle.vschema.specs.Checks.{is_aggregated};
@@ -26,10 +26,10 @@ use crate::table::StoredTable;
 use crate::table_rows::TableRows;
 use sql_eval::{RowSource, all_kept, has_key_among, in_key_order, same_row, select_from};
 use sql_tree::Condition;
-use std::alloc::Global;
+use std::alloc::{AllocError, Global};
 use std::marker::Model;
 use vschema::{Query, Table};
-use vt_value::{Items, Refusal, Row};
+use vt_value::{Items, Row};
 
 /// The rows of a table with changes that the table does not have. Contracts see the rows, and the ordinals of the key columns.
 #[derive(Drop)]
@@ -130,9 +130,8 @@ fn has_slot_of<'a>(
     stored: &'a StoredTable,
     gone: &RemovedRows<'a>,
     row: &Row,
-) -> Result<bool, Refusal>
+) -> Result<bool, AllocError>
     ensures ok { IfOk result (λ has. has ≡ list_any (has_key stored.now.ordinals (key_at stored.now.ordinals row.now)) (left_of gone.now (rows_in stored.now.slots))) }
-    ensures err { IfErr result (λ e. e ≡ Refusal.OutOfMemory) }
 {
     let key = stored.key_of(alloc, row)?;
     Ok(has_slot(stored, gone, &key))
@@ -144,9 +143,8 @@ fn any_has_slot<'a>(
     stored: &'a StoredTable,
     gone: &RemovedRows<'a>,
     new: &[Row],
-) -> Result<bool, Refusal>
+) -> Result<bool, AllocError>
     ensures ok { IfOk result (λ has. has ≡ list_any (λ n. list_any (has_key stored.now.ordinals (key_at stored.now.ordinals n)) (left_of gone.now (rows_in stored.now.slots))) new.now) }
-    ensures err { IfErr result (λ e. e ≡ Refusal.OutOfMemory) }
 {
     for row in new {
         if has_slot_of(alloc, stored, gone, row)? {
@@ -203,9 +201,8 @@ impl<'a> Overlay<'a> {
     // others, and one that is removed is the first that is this one. What is read of them is what is read of that list
     // With: Overlay::{add, remove, all, chosen, kept, select, has_any_key}, StoredTables::overlay
     /// The rows of a table, without any change. Refuses for want of memory.
-    pub fn of(alloc: Global, table: &'a TableRows) -> Result<Overlay<'a>, Refusal>
+    pub fn of(alloc: Global, table: &'a TableRows) -> Result<Overlay<'a>, AllocError>
         ensures rows { IfOk result (λ overlay. overlay.rows ≡ table.now.rows) }
-        ensures err { IfErr result (λ e. e ≡ Refusal.OutOfMemory) }
     {
         let others = all_of(alloc, SharedRows::new(table.unslotted.as_slice()))?;
         Ok(Overlay {
@@ -216,18 +213,16 @@ impl<'a> Overlay<'a> {
     }
 
     /// Adds a row. Refuses for want of memory.
-    pub fn add(&mut self, row: &'a Row) -> Result<(), Refusal>
+    pub fn add(&mut self, row: &'a Row) -> Result<(), AllocError>
         ensures ok { OnOk result (self.new.rows ≡ self.old.rows ++ row.now ∷ []) }
-        ensures err { IfErr result (λ e. e ≡ Refusal.OutOfMemory) }
     {
         self.others.push(row)?;
         Ok(())
     }
 
     /// Removes the first row that is this one. Refuses for want of memory.
-    pub fn remove(&mut self, alloc: Global, row: &'a Row) -> Result<(), Refusal>
+    pub fn remove(&mut self, alloc: Global, row: &'a Row) -> Result<(), AllocError>
         ensures ok { OnOk result (self.new.rows ≡ without row.now self.old.rows) }
-        ensures err { IfErr result (λ e. e ≡ Refusal.OutOfMemory) }
     {
         let key = self.stored.key_of(alloc, row)?;
         if is_left(self.stored, &self.gone, &key, row) {
@@ -256,9 +251,8 @@ impl<'a> Overlay<'a> {
         &'b self,
         alloc: Global,
         condition: &'a Option<Condition<usize>>,
-    ) -> Result<RowsLeft<'a, 'b>, Refusal>
+    ) -> Result<RowsLeft<'a, 'b>, AllocError>
         ensures ok { IfOk result (λ rows. filter (is_kept condition.now) rows ≡ filter (is_kept condition.now) self.now.rows) }
-        ensures err { IfErr result (λ e. e ≡ Refusal.OutOfMemory) }
     {
         let slots = slots_left(alloc, self.stored, condition)?;
         Ok(RowsLeft {
@@ -275,29 +269,26 @@ impl<'a> Overlay<'a> {
         &self,
         alloc: Global,
         condition: &'a Option<Condition<usize>>,
-    ) -> Result<Items<Row>, Refusal>
+    ) -> Result<Items<Row>, AllocError>
         ensures ok { IfOk result (λ list. list ≡ filter (is_kept condition.now) self.now.rows) }
-        ensures err { IfErr result (λ e. e ≡ Refusal.OutOfMemory) }
     {
         let rows = self.chosen(alloc, condition)?;
         all_kept(alloc, condition, rows)
     }
 
     /// What a query gives over the rows. Refuses for want of memory.
-    pub fn select(&self, alloc: Global, query: &'a Query) -> Result<Items<Row>, Refusal>
+    pub fn select(&self, alloc: Global, query: &'a Query) -> Result<Items<Row>, AllocError>
         requires summed { is_aggregated query.now ≡ true → CanBeSummed (filter (is_kept query.now.filter) self.now.rows) }
         ensures ok { IfOk result (IsAnswer query.now self.now.rows) }
-        ensures err { IfErr result (λ e. e ≡ Refusal.OutOfMemory) }
     {
         let rows = self.chosen(alloc, &query.filter)?;
         select_from(alloc, query, rows)
     }
 
     // Whether a row has the primary key of one of these, if the ordinals of the key columns tell which are the same.
-    fn has_any_keyed(&self, alloc: Global, table: &Table, new: &[Row]) -> Result<bool, Refusal>
+    fn has_any_keyed(&self, alloc: Global, table: &Table, new: &[Row]) -> Result<bool, AllocError>
         requires { (a b : List V) → same_row (key_at self.now.ordinals a) (key_at self.now.ordinals b) ≡ same_row (key_of table.now a) (key_of table.now b) }
         ensures ok { IfOk result (λ has. has ≡ list_any (λ n. list_any (λ r. same_row (key_of table.now n) (key_of table.now r)) self.now.rows) new.now) }
-        ensures err { IfErr result (λ e. e ≡ Refusal.OutOfMemory) }
     {
         if any_has_slot(alloc, self.stored, &self.gone, new)? {
             return Ok(true);
@@ -307,9 +298,8 @@ impl<'a> Overlay<'a> {
     }
 
     /// Whether a row has the primary key of one of these. Refuses for want of memory.
-    pub fn has_any_key(&self, alloc: Global, table: &Table, new: &[Row]) -> Result<bool, Refusal>
+    pub fn has_any_key(&self, alloc: Global, table: &Table, new: &[Row]) -> Result<bool, AllocError>
         ensures ok { IfOk result (λ has. has ≡ list_any (λ n. list_any (λ r. same_row (key_of table.now n) (key_of table.now r)) self.now.rows) new.now) }
-        ensures err { IfErr result (λ e. e ≡ Refusal.OutOfMemory) }
     {
         if are_key_ordinals(alloc, table, self.stored.key_columns())? {
             return self.has_any_keyed(alloc, table, new);
@@ -321,10 +311,9 @@ impl<'a> Overlay<'a> {
 
 impl StoredTables {
     /// The rows of the table at an ordinal, without any change. Refuses for want of memory.
-    pub fn overlay(&self, alloc: Global, ordinal: usize) -> Result<Overlay<'_>, Refusal>
+    pub fn overlay(&self, alloc: Global, ordinal: usize) -> Result<Overlay<'_>, AllocError>
         requires { ordinal < length self.now.rows }
         ensures ok { IfOk result (λ overlay. overlay.rows ≡ rows_of self.now.rows ordinal) }
-        ensures err { IfErr result (λ e. e ≡ Refusal.OutOfMemory) }
     {
         Overlay::of(alloc, &self.tables[ordinal])
     }

@@ -1,5 +1,5 @@
 //! What a join gives over the stored rows of two tables.
-ghost use Rattle.std.specs.Prelude.{◌≡◌, ◌<◌, true, IfOk, IfErr, IfSome, IsPermutation, List, None, filter, length, slice_index};
+ghost use Rattle.std.specs.Prelude.{◌≡◌, ◌<◌, true, IfOk, IfSome, IsPermutation, List, None, filter, length, slice_index};
 ghost use Rattle.vt_value.specs.declared.value.Value.{Value as V};
 ghost use Rattle.vt_value.specs.Values.{value_at};
 ghost use Rattle.vschema.specs.Checks.{is_aggregated};
@@ -19,9 +19,9 @@ use crate::table::StoredTable;
 use crate::table_rows::TableRows;
 use crate::walk::ChosenRows;
 use sql_eval::select_local;
-use std::alloc::Global;
+use std::alloc::{AllocError, Global};
 use vschema::{Join, Query};
-use vt_value::{Items, Refusal, Row};
+use vt_value::{Items, Row};
 
 impl StoredTable {
     // Values of which the first key column has one in the first row of each pair that a query keeps: none for an aggregated one, which is
@@ -46,11 +46,10 @@ impl TableRows {
         alloc: Global,
         query: &'a Query,
         join: Join,
-    ) -> Result<ChosenRows<'a>, Refusal>
+    ) -> Result<ChosenRows<'a>, AllocError>
         ensures all { is_aggregated query.now ≡ true → IfOk result (λ rows. rows_chosen rows ≡ self.now.rows) }
         ensures kept { IfOk result (λ rows. (seconds : List (List V)) → filter (is_kept query.now.filter) (pairs_of join (rows_chosen rows) seconds)
             ≡ filter (is_kept query.now.filter) (pairs_of join self.now.rows seconds)) }
-        ensures err { IfErr result (λ e. e ≡ Refusal.OutOfMemory) }
     {
         let values = self.stored.first_pair_values(query, join);
         let slots = self.stored.chosen_by(alloc, values)?;
@@ -62,9 +61,8 @@ impl TableRows {
 
     // The rows, to be looked up by a column. Those in slots are found by their keys if these begin with the column, and only the others
     // are sorted.
-    fn by_value(&self, alloc: Global, column: usize) -> Result<RowsByValue<'_>, Refusal>
+    fn by_value(&self, alloc: Global, column: usize) -> Result<RowsByValue<'_>, AllocError>
         ensures ok { IfOk result (λ r. IsPermutation r.rows self.now.rows) }
-        ensures err { IfErr result (λ e. e ≡ Refusal.OutOfMemory) }
     {
         match self.stored.key_columns().first() {
             Some(first) if *first == column => {
@@ -82,10 +80,9 @@ impl TableRows {
         query: &Query,
         join: Join,
         second: &TableRows,
-    ) -> Result<Items<Row>, Refusal>
+    ) -> Result<Items<Row>, AllocError>
         requires summed { is_aggregated query.now ≡ true → CanBeSummed (pairs_of join self.now.rows second.now.rows) }
         ensures ok { IfOk result (IsAnswer query.now (pairs_of join self.now.rows second.now.rows)) }
-        ensures err { IfErr result (λ e. e ≡ Refusal.OutOfMemory) }
     {
         let seconds = second.by_value(alloc, join.second.saturating_sub(join.width))?;
         let firsts = self.firsts(alloc, query, join)?;
@@ -100,10 +97,9 @@ impl StoredTables {
         alloc: Global,
         query: &Query,
         join: Join,
-    ) -> Result<Items<Row>, Refusal>
+    ) -> Result<Items<Row>, AllocError>
         requires summed { is_aggregated query.now ≡ true → CanBeSummed (pairs_of join (rows_of self.now.rows query.now.table) (rows_of self.now.rows join.table)) }
         ensures ok { IfOk result (IsAnswer query.now (pairs_of join (rows_of self.now.rows query.now.table) (rows_of self.now.rows join.table))) }
-        ensures err { IfErr result (λ e. e ≡ Refusal.OutOfMemory) }
     {
         let Some(first) = self.table(query.table) else {
             return select_local(alloc, query, &[]);

@@ -1,5 +1,5 @@
 //! The conjuncts of a join's WHERE that have columns of its first table alone.
-ghost use Rattle.std.specs.Prelude.{◌≡◌, ◌++◌, List, map, true, IsTrue, IfOk, IfErr, OnOk};
+ghost use Rattle.std.specs.Prelude.{◌≡◌, ◌++◌, List, map, true, IsTrue, IfOk, OnOk};
 ghost use Rattle.std.specs.List.{list_all};
 ghost use Rattle.vt_value.specs.declared.value.Value.{Value as V};
 ghost use Rattle.vt_value.specs.Values.{is_true, all_true, any_true};
@@ -9,8 +9,8 @@ ghost use Rattle.shard_store.specs.inner.Joined.{passes};
 
 use sql_eval::truth;
 use sql_tree::{Condition, Operand};
-use std::alloc::Global;
-use vt_value::{Refusal, Row, Truth};
+use std::alloc::{AllocError, Global};
+use vt_value::{Row, Truth};
 
 // Whether an operand is a literal or a column below an ordinal.
 fn is_operand_below(operand: &Operand<usize>, width: usize) -> bool
@@ -55,10 +55,9 @@ fn push_own<'a>(
     condition: &'a Condition<usize>,
     width: usize,
     own: &mut Vec<&'a Condition<usize>>,
-) -> Result<(), Refusal>
+) -> Result<(), AllocError>
     ensures ok { OnOk result ((first second : List V) → passes own.old.items first ≡ true
         → is_true (truth_at (padded_row width first ++ second) condition.now) ≡ true → passes own.new.items first ≡ true) }
-    ensures err { IfErr result (λ e. e ≡ Refusal.OutOfMemory) }
 {
     if let Condition::And(members) = condition {
         return push_own_of_each(members.as_slice(), width, own);
@@ -74,10 +73,9 @@ fn push_own_of_each<'a>(
     members: &'a [Condition<usize>],
     width: usize,
     own: &mut Vec<&'a Condition<usize>>,
-) -> Result<(), Refusal>
+) -> Result<(), AllocError>
     ensures ok { OnOk result ((first second : List V) → passes own.old.items first ≡ true
         → is_true (all_true (map (truth_at (padded_row width first ++ second)) members.now)) ≡ true → passes own.new.items first ≡ true) }
-    ensures err { IfErr result (λ e. e ≡ Refusal.OutOfMemory) }
 {
     for member in members {
         push_own(member, width, own)?;
@@ -89,9 +87,8 @@ fn conjuncts_of<'a>(
     alloc: Global,
     condition: &'a Condition<usize>,
     width: usize,
-) -> Result<Vec<&'a Condition<usize>>, Refusal>
+) -> Result<Vec<&'a Condition<usize>>, AllocError>
     ensures ok { IfOk result (λ own. (first second : List V) → is_true (truth_at (padded_row width first ++ second) condition.now) ≡ true → passes own.items first ≡ true) }
-    ensures err { IfErr result (λ e. e ≡ Refusal.OutOfMemory) }
 {
     let mut own = Vec::new(alloc);
     push_own(condition, width, &mut own)?;
@@ -104,9 +101,8 @@ pub fn own_conjuncts<'a>(
     alloc: Global,
     condition: &'a Option<Condition<usize>>,
     width: usize,
-) -> Result<Vec<&'a Condition<usize>>, Refusal>
+) -> Result<Vec<&'a Condition<usize>>, AllocError>
     ensures ok { IfOk result (λ own. (first second : List V) → is_kept condition.now (padded_row width first ++ second) ≡ true → passes own.items first ≡ true) }
-    ensures err { IfErr result (λ e. e ≡ Refusal.OutOfMemory) }
 {
     match condition {
         Some(condition) => conjuncts_of(alloc, condition, width),

@@ -30,7 +30,7 @@ use crate::table_rows::TableRows;
 use crate::walk::{AllRows, ChosenRows, ChosenSlots, RowsAt};
 use sql_eval::{all_kept, change_local, removals_from, select_from, select_local, updates_from};
 use sql_tree::{Assignment, Condition};
-use std::alloc::Global;
+use std::alloc::{AllocError, Global};
 use vschema::{Query, RowChange, Table, Write};
 use vt_value::{Items, Refusal, Row, Value};
 
@@ -67,20 +67,22 @@ impl StoredTable {
     }
 
     // The row in a slot whose only key column has a value.
-    fn row_with(&self, alloc: Global, value: &Value) -> Result<Option<&Row>, Refusal>
+    fn row_with(&self, alloc: Global, value: &Value) -> Result<Option<&Row>, AllocError>
         requires { length self.now.ordinals ≡ 1 }
         ensures ok { IfOk result (λ row. option_to_list (option_copied row) ≡ filter (begins_with self.now.ordinals value.now) (rows_in self.now.slots)) }
-        ensures err { IfErr result (λ e. e ≡ Refusal.OutOfMemory) }
     {
         let key = key_of_value(alloc, value)?;
         Ok(self.get(&key))
     }
 
     // The rows in slots whose first key column has one of the values.
-    fn chosen_of<'a>(&'a self, alloc: Global, fixed: Fixed<'a>) -> Result<ChosenSlots<'a>, Refusal>
+    fn chosen_of<'a>(
+        &'a self,
+        alloc: Global,
+        fixed: Fixed<'a>,
+    ) -> Result<ChosenSlots<'a>, AllocError>
         requires { 0 < length self.now.ordinals }
         ensures ok { IfOk result (λ rows. slots_chosen rows ≡ filter (λ row. fits fixed.entry (value_at row (slice_index self.now.ordinals 0))) (rows_in self.now.slots)) }
-        ensures err { IfErr result (λ e. e ≡ Refusal.OutOfMemory) }
     {
         match fixed {
             Fixed::One(value) => {
@@ -99,10 +101,9 @@ impl StoredTable {
         &'a self,
         alloc: Global,
         fixed: Option<Fixed<'a>>,
-    ) -> Result<ChosenSlots<'a>, Refusal>
+    ) -> Result<ChosenSlots<'a>, AllocError>
         requires { IfSome fixed (λ f. 0 < length self.now.ordinals) }
         ensures ok { IfOk result (λ rows. slots_chosen rows ≡ filter (may_have fixed.entry (slice_index self.now.ordinals 0)) (rows_in self.now.slots)) }
-        ensures err { IfErr result (λ e. e ≡ Refusal.OutOfMemory) }
     {
         match fixed {
             Some(fixed) => self.chosen_of(alloc, fixed),
@@ -115,9 +116,8 @@ impl StoredTable {
         &'a self,
         alloc: Global,
         condition: &'a Option<Condition<usize>>,
-    ) -> Result<ChosenSlots<'a>, Refusal>
+    ) -> Result<ChosenSlots<'a>, AllocError>
         ensures ok { IfOk result (λ rows. filter (is_kept condition.now) (slots_chosen rows) ≡ filter (is_kept condition.now) (rows_in self.now.slots)) }
-        ensures err { IfErr result (λ e. e ≡ Refusal.OutOfMemory) }
     {
         let values = self.first_values(condition);
         self.chosen_by(alloc, values)
@@ -130,9 +130,8 @@ impl TableRows {
         &'a self,
         alloc: Global,
         condition: &'a Option<Condition<usize>>,
-    ) -> Result<ChosenRows<'a>, Refusal>
+    ) -> Result<ChosenRows<'a>, AllocError>
         ensures ok { IfOk result (λ rows. filter (is_kept condition.now) (rows_chosen rows) ≡ filter (is_kept condition.now) self.now.rows) }
-        ensures err { IfErr result (λ e. e ≡ Refusal.OutOfMemory) }
     {
         let slots = self.stored.chosen(alloc, condition)?;
         Ok(ChosenRows {
@@ -146,9 +145,8 @@ impl TableRows {
         &self,
         alloc: Global,
         condition: &Option<Condition<usize>>,
-    ) -> Result<Option<RowsAt<'_>>, Refusal>
+    ) -> Result<Option<RowsAt<'_>>, AllocError>
         ensures ok { IfOk result (λ found. IfSome found (λ rows. filter (is_kept condition.now) (rows_at rows) ≡ filter (is_kept condition.now) self.now.rows)) }
-        ensures err { IfErr result (λ e. e ≡ Refusal.OutOfMemory) }
     {
         let Some(value) = self.stored.lone_value(condition) else {
             return Ok(None);
@@ -165,9 +163,8 @@ impl TableRows {
         &self,
         alloc: Global,
         condition: &Option<Condition<usize>>,
-    ) -> Result<Items<Row>, Refusal>
+    ) -> Result<Items<Row>, AllocError>
         ensures ok { IfOk result (λ list. list ≡ filter (is_kept condition.now) self.now.rows) }
-        ensures err { IfErr result (λ e. e ≡ Refusal.OutOfMemory) }
     {
         if let Some(found) = self.at(alloc, condition)? {
             return all_kept(alloc, condition, found);
@@ -183,9 +180,8 @@ impl TableRows {
         ordinal: usize,
         assignments: &[Assignment<usize>],
         condition: &Option<Condition<usize>>,
-    ) -> Result<Items<RowChange>, Refusal>
+    ) -> Result<Items<RowChange>, AllocError>
         ensures ok { IfOk result (λ changes. changes ≡ flat_map (row_updates ordinal assignments.now condition.now) self.now.rows) }
-        ensures err { IfErr result (λ e. e ≡ Refusal.OutOfMemory) }
     {
         if let Some(found) = self.at(alloc, condition)? {
             return updates_from(alloc, ordinal, assignments, condition, found);
@@ -200,9 +196,8 @@ impl TableRows {
         alloc: Global,
         ordinal: usize,
         condition: &Option<Condition<usize>>,
-    ) -> Result<Items<RowChange>, Refusal>
+    ) -> Result<Items<RowChange>, AllocError>
         ensures ok { IfOk result (λ changes. changes ≡ map (Removed ordinal) (filter (is_kept condition.now) self.now.rows)) }
-        ensures err { IfErr result (λ e. e ≡ Refusal.OutOfMemory) }
     {
         if let Some(found) = self.at(alloc, condition)? {
             return removals_from(alloc, ordinal, condition, found);
@@ -212,10 +207,9 @@ impl TableRows {
     }
 
     // What a query gives over the rows.
-    fn select(&self, alloc: Global, query: &Query) -> Result<Items<Row>, Refusal>
+    fn select(&self, alloc: Global, query: &Query) -> Result<Items<Row>, AllocError>
         requires summed { is_aggregated query.now ≡ true → CanBeSummed self.now.rows }
         ensures ok { IfOk result (IsAnswer query.now self.now.rows) }
-        ensures err { IfErr result (λ e. e ≡ Refusal.OutOfMemory) }
     {
         if let Some(found) = self.at(alloc, &query.filter)? {
             return select_from(alloc, query, found);
@@ -225,10 +219,15 @@ impl TableRows {
     }
 
     // Whether a row has this row's primary key; `keyed` tells whether it can be looked up.
-    fn has_key(&self, alloc: Global, table: &Table, keyed: bool, row: &Row) -> Result<bool, Refusal>
+    fn has_key(
+        &self,
+        alloc: Global,
+        table: &Table,
+        keyed: bool,
+        row: &Row,
+    ) -> Result<bool, AllocError>
         requires { IsTrue keyed → (a b : List V) → same_row (key_at self.now.ordinals a) (key_at self.now.ordinals b) ≡ same_row (key_of table.now a) (key_of table.now b) }
         ensures ok { IfOk result (λ has. has ≡ list_any (λ r. same_row (key_of table.now row.now) (key_of table.now r)) self.now.rows) }
-        ensures err { IfErr result (λ e. e ≡ Refusal.OutOfMemory) }
     {
         if !keyed {
             return Ok(any_has_key(table, row, self.all()));
@@ -239,9 +238,8 @@ impl TableRows {
     }
 
     // Whether a row has the primary key of one of these.
-    fn has_any_key(&self, alloc: Global, table: &Table, new: &[Row]) -> Result<bool, Refusal>
+    fn has_any_key(&self, alloc: Global, table: &Table, new: &[Row]) -> Result<bool, AllocError>
         ensures ok { IfOk result (λ has. has ≡ list_any (λ n. list_any (λ r. same_row (key_of table.now n) (key_of table.now r)) self.now.rows) new.now) }
-        ensures err { IfErr result (λ e. e ≡ Refusal.OutOfMemory) }
     {
         let keyed = are_key_ordinals(alloc, table, self.stored.key_columns())?;
         for row in new {
@@ -284,9 +282,8 @@ impl StoredTables {
         alloc: Global,
         ordinal: usize,
         condition: &Option<Condition<usize>>,
-    ) -> Result<Items<Row>, Refusal>
+    ) -> Result<Items<Row>, AllocError>
         ensures ok { IfOk result (λ list. list ≡ filter (is_kept condition.now) (rows_of self.now.rows ordinal)) }
-        ensures err { IfErr result (λ e. e ≡ Refusal.OutOfMemory) }
     {
         match self.table(ordinal) {
             Some(table) => table.kept(alloc, condition),
@@ -295,10 +292,9 @@ impl StoredTables {
     }
 
     // What a query gives over the rows of its table.
-    fn select_one(&self, alloc: Global, query: &Query) -> Result<Items<Row>, Refusal>
+    fn select_one(&self, alloc: Global, query: &Query) -> Result<Items<Row>, AllocError>
         requires summed { is_aggregated query.now ≡ true → CanBeSummed (rows_of self.now.rows query.now.table) }
         ensures ok { IfOk result (IsAnswer query.now (rows_of self.now.rows query.now.table)) }
-        ensures err { IfErr result (λ e. e ≡ Refusal.OutOfMemory) }
     {
         match self.table(query.table) {
             Some(table) => table.select(alloc, query),
@@ -307,10 +303,9 @@ impl StoredTables {
     }
 
     /// What a query gives over the rows of its table, or over the pairs of its two tables. Refuses for want of memory.
-    pub fn select(&self, alloc: Global, query: &Query) -> Result<Items<Row>, Refusal>
+    pub fn select(&self, alloc: Global, query: &Query) -> Result<Items<Row>, AllocError>
         requires summed { is_aggregated query.now ≡ true → CanBeSummed (source_rows query.now self.now.rows) }
         ensures ok { IfOk result (IsAnswer query.now (source_rows query.now self.now.rows)) }
-        ensures err { IfErr result (λ e. e ≡ Refusal.OutOfMemory) }
     {
         match query.join {
             Some(join) => self.select_pairs(alloc, query, join),
@@ -324,9 +319,8 @@ impl StoredTables {
         table: &Table,
         ordinal: usize,
         new: &[Row],
-    ) -> Result<bool, Refusal>
+    ) -> Result<bool, AllocError>
         ensures ok { IfOk result (λ has. has ≡ list_any (λ n. list_any (λ r. same_row (key_of table.now n) (key_of table.now r)) (rows_of self.now.rows ordinal)) new.now) }
-        ensures err { IfErr result (λ e. e ≡ Refusal.OutOfMemory) }
     {
         match self.table(ordinal) {
             Some(rows) => rows.has_any_key(alloc, table, new),
@@ -341,9 +335,8 @@ impl StoredTables {
         ordinal: usize,
         assignments: &[Assignment<usize>],
         condition: &Option<Condition<usize>>,
-    ) -> Result<Items<RowChange>, Refusal>
+    ) -> Result<Items<RowChange>, AllocError>
         ensures ok { IfOk result (λ changes. changes ≡ flat_map (row_updates ordinal assignments.now condition.now) (rows_of self.now.rows ordinal)) }
-        ensures err { IfErr result (λ e. e ≡ Refusal.OutOfMemory) }
     {
         match self.table(ordinal) {
             Some(table) => table.updates(alloc, ordinal, assignments, condition),
@@ -357,9 +350,8 @@ impl StoredTables {
         alloc: Global,
         ordinal: usize,
         condition: &Option<Condition<usize>>,
-    ) -> Result<Items<RowChange>, Refusal>
+    ) -> Result<Items<RowChange>, AllocError>
         ensures ok { IfOk result (λ changes. changes ≡ map (Removed ordinal) (filter (is_kept condition.now) (rows_of self.now.rows ordinal))) }
-        ensures err { IfErr result (λ e. e ≡ Refusal.OutOfMemory) }
     {
         match self.table(ordinal) {
             Some(table) => table.removals(alloc, ordinal, condition),
@@ -383,7 +375,7 @@ impl StoredTables {
         match self.has_any_key(alloc, table, ordinal, new) {
             Ok(true) => Err(Refusal::DuplicateKey),
             Ok(false) => change_local(alloc, table, write, &[]),
-            Err(e) => Err(e),
+            Err(_) => Err(Refusal::OutOfMemory),
         }
     }
 
@@ -407,9 +399,9 @@ impl StoredTables {
                 new.as_slice(),
             ),
             Write::Update(ordinal, assignments, condition) => {
-                self.updates(alloc, *ordinal, assignments.as_slice(), condition)
+                Ok(self.updates(alloc, *ordinal, assignments.as_slice(), condition)?)
             }
-            Write::Delete(ordinal, condition) => self.removals(alloc, *ordinal, condition),
+            Write::Delete(ordinal, condition) => Ok(self.removals(alloc, *ordinal, condition)?),
         }
     }
 }

@@ -1,5 +1,5 @@
 //! Rows that are gone from the slots of a table, which are found by their keys.
-ghost use Rattle.std.specs.Prelude.{◌≡◌, ◌||◌, [], List, true, false, IfErr, OnOk};
+ghost use Rattle.std.specs.Prelude.{◌≡◌, ◌||◌, [], List, true, false, OnOk};
 ghost use Rattle.std.specs.List.{list_any};
 ghost use Rattle.std.specs.Ordering.{is_lt};
 ghost use Rattle.std.specs.Cmp.Lexicographic.{slice_cmp};
@@ -12,12 +12,12 @@ ghost use Rattle.shard_store.specs.inner.Gaps.{is_below_lent, in_gap, IsGapIn};
 
 use crate::key::RowKey;
 use crate::primary::value_at;
-use std::alloc::Global;
+use std::alloc::{AllocError, Global};
 use std::cmp::Ordering;
 use std::collections::BTreeMap;
 use std::marker::Model;
 use std::ops::Bound;
-use vt_value::{Refusal, Row, Value, sort_order};
+use vt_value::{Row, Value, sort_order};
 
 /// A row, in the order of its values in some columns, one after the other.
 #[derive(Clone, Copy)]
@@ -167,10 +167,9 @@ impl<'a> RemovedRows<'a> {
     }
 
     /// Adds a row. Refuses for want of memory.
-    pub fn add(&mut self, row: &'a Row) -> Result<(), Refusal>
+    pub fn add(&mut self, row: &'a Row) -> Result<(), AllocError>
         ensures columns { self.new.columns ≡ self.old.columns }
         ensures ok { OnOk result ((key : List V) → list_any (same_row key) self.new.keys ≡ (same_row key (key_at self.old.columns row.now) || list_any (same_row key) self.old.keys)) }
-        ensures err { IfErr result (λ e. e ≡ Refusal.OutOfMemory) }
     {
         let columns = self.columns;
         self.rows.insert(LentRow { columns, row }, ())?;

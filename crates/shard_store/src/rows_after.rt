@@ -1,5 +1,5 @@
 //! The rows of a table from a row on, in the order of primary keys if the rows are stored in that order.
-ghost use Rattle.std.specs.Prelude.{◌≡◌, ◌<◌, ◌++◌, IsTrue, IfOk, IfErr, option_copied, filter, length};
+ghost use Rattle.std.specs.Prelude.{◌≡◌, ◌<◌, ◌++◌, IsTrue, IfOk, option_copied, filter, length};
 ghost use Rattle.vschema.specs.Database.{rows_of};
 ghost use Rattle.shard_store.specs.RowsAfter.{comes_after, IsInOrder};
 
@@ -7,9 +7,9 @@ use crate::shared_row::SharedRows;
 use crate::stored::StoredTables;
 use crate::table_rows::TableRows;
 use crate::walk::RowsInOrder;
-use std::alloc::Global;
+use std::alloc::{AllocError, Global};
 use vschema::Table;
-use vt_value::{Refusal, Row};
+use vt_value::Row;
 
 /// Rows of a table that are still to come, among which are all after a row: those in slots, in the order of primary keys if
 /// `in_order` says so, and those outside them.
@@ -27,10 +27,9 @@ impl TableRows {
         alloc: Global,
         table: &Table,
         last: Option<&Row>,
-    ) -> Result<RowsAfter<'_>, Refusal>
+    ) -> Result<RowsAfter<'_>, AllocError>
         ensures rows { IfOk result (λ b. filter (comes_after table.now (option_copied last.entry)) (b.slots ++ b.unslotted) ≡ filter (comes_after table.now (option_copied last.entry)) self.now.rows) }
         ensures order { IfOk result (λ b. IsTrue b.in_order → IsInOrder table.now b.slots) }
-        ensures err { IfErr result (λ e. e ≡ Refusal.OutOfMemory) }
     {
         let in_order = self.stored.is_by_primary_key(table);
         let slots = self.stored.rows_after(alloc, table, in_order, last)?;
@@ -51,11 +50,10 @@ impl StoredTables {
         ordinal: usize,
         table: &Table,
         last: Option<&Row>,
-    ) -> Result<RowsAfter<'_>, Refusal>
+    ) -> Result<RowsAfter<'_>, AllocError>
         requires { ordinal < length self.now.rows }
         ensures rows { IfOk result (λ b. filter (comes_after table.now (option_copied last.entry)) (b.slots ++ b.unslotted) ≡ filter (comes_after table.now (option_copied last.entry)) (rows_of self.now.rows ordinal)) }
         ensures order { IfOk result (λ b. IsTrue b.in_order → IsInOrder table.now b.slots) }
-        ensures err { IfErr result (λ e. e ≡ Refusal.OutOfMemory) }
     {
         self.tables[ordinal].rows_after(alloc, table, last)
     }

@@ -1,14 +1,14 @@
 //! Changes of rows that others hold too.
-ghost use Rattle.std.specs.Prelude.{◌≡◌, IfOk, IfErr};
+ghost use Rattle.std.specs.Prelude.{◌≡◌, IfOk};
 ghost use Rattle.vschema.specs.declared.changes.RowChange.TheVariants as changes;
 ghost use Rattle.vschema.specs.Database.{changed_table, changed_row};
 ghost use Rattle.shard_store.specs.SharedChanges.{row_change};
 
 use crate::shared_row::SharedRow;
-use std::alloc::Global;
+use std::alloc::{AllocError, Global};
 use std::marker::Model;
 use vschema::RowChange;
-use vt_value::{Refusal, Row, copy_row};
+use vt_value::{Row, copy_row};
 
 /// What is done to one row of the table at an ordinal, or to one and another in its place.
 #[derive(Drop)]
@@ -39,17 +39,15 @@ impl Model for SharedChange {
 }
 
 // An equal row, which has one owner.
-fn copied(alloc: Global, row: &Row) -> Result<SharedRow, Refusal>
+fn copied(alloc: Global, row: &Row) -> Result<SharedRow, AllocError>
     ensures ok { IfOk result (λ r. r ≡ row.now) }
-    ensures err { IfErr result (λ e. e ≡ Refusal.OutOfMemory) }
 {
     let row = copy_row(alloc, row)?;
     SharedRow::new(alloc, row)
 }
 
-fn copied_rows(alloc: Global, change: &RowChange) -> Result<ChangedRows, Refusal>
+fn copied_rows(alloc: Global, change: &RowChange) -> Result<ChangedRows, AllocError>
     ensures ok { IfOk result (λ rows. row_change rows ≡ change.now) }
-    ensures err { IfErr result (λ e. e ≡ Refusal.OutOfMemory) }
 {
     match change {
         RowChange::Added(ordinal, row) => Ok(ChangedRows::Added(*ordinal, copied(alloc, row)?)),
@@ -63,9 +61,8 @@ fn copied_rows(alloc: Global, change: &RowChange) -> Result<ChangedRows, Refusal
 
 impl SharedChange {
     /// An equal change, whose rows have one owner. Refuses for want of memory.
-    pub fn new(alloc: Global, change: &RowChange) -> Result<SharedChange, Refusal>
+    pub fn new(alloc: Global, change: &RowChange) -> Result<SharedChange, AllocError>
         ensures ok { IfOk result (λ c. c ≡ change.now) }
-        ensures err { IfErr result (λ e. e ≡ Refusal.OutOfMemory) }
     {
         let rows = copied_rows(alloc, change)?;
         Ok(SharedChange { rows })
@@ -110,9 +107,8 @@ impl SharedChange {
     }
 
     /// An equal change, with copies of its rows. Refuses for want of memory.
-    pub fn copy(&self, alloc: Global) -> Result<RowChange, Refusal>
+    pub fn copy(&self, alloc: Global) -> Result<RowChange, AllocError>
         ensures ok { IfOk result (λ c. c ≡ self.now) }
-        ensures err { IfErr result (λ e. e ≡ Refusal.OutOfMemory) }
     {
         match &self.rows {
             ChangedRows::Added(ordinal, row) => {

@@ -1,12 +1,12 @@
 //! Rows that a table and its snapshots hold together.
-ghost use Rattle.std.specs.Prelude.{◌≡◌, IfOk, IfErr, option_copied};
+ghost use Rattle.std.specs.Prelude.{◌≡◌, IfOk, option_copied};
 
 use row_chunks::Same;
 use sql_eval::RowSource;
 use std::alloc::{AllocError, Global};
 use std::marker::Model;
 use std::sync::Arc;
-use vt_value::{Refusal, Row};
+use vt_value::Row;
 
 /// A row that may have several owners: another one is made without a copy of the row. Contracts see the row.
 #[derive(Drop)]
@@ -26,13 +26,12 @@ impl Model for SharedRow {
 
 impl SharedRow {
     /// A row that has one owner. Refuses for want of memory.
-    pub fn new(alloc: Global, row: Row) -> Result<SharedRow, Refusal>
+    pub fn new(alloc: Global, row: Row) -> Result<SharedRow, AllocError>
         ensures ok { IfOk result (λ s. s ≡ row) }
-        ensures err { IfErr result (λ e. e ≡ Refusal.OutOfMemory) }
     {
         match Arc::new(alloc, row) {
             Ok(row) => Ok(SharedRow { row }),
-            Err(_) => Err(Refusal::OutOfMemory),
+            Err(_) => Err(AllocError),
         }
     }
 

@@ -1,25 +1,23 @@
 //! Values in their order.
-ghost use Rattle.std.specs.Prelude.{◌≡◌, OnOk, IfOk, IfErr, IsPermutation, map, MatchOption, true};
+ghost use Rattle.std.specs.Prelude.{◌≡◌, OnOk, IfOk, IsPermutation, map, MatchOption, true};
 ghost use Rattle.std.specs.Ordering.{is_lt};
 ghost use Rattle.vt_value.specs.declared.value.Value.{Value as V};
 ghost use Rattle.vt_value.specs.Values.{value_cmp};
 ghost use Rattle.shard_store.specs.Chosen.{is_among, Climbs};
 
-use std::alloc::Global;
-use vt_value::{Refusal, Value, sort_order};
+use std::alloc::{AllocError, Global};
+use vt_value::{Value, sort_order};
 
-fn sort(values: &mut Vec<&Value>) -> Result<(), Refusal>
+fn sort(values: &mut Vec<&Value>) -> Result<(), AllocError>
     ensures permutation { IsPermutation values.old.items values.new.items }
     ensures sorted { OnOk result (Climbs (map (λ v. v.now) values.new.items)) }
-    ensures err { IfErr result (λ e. e ≡ Refusal.OutOfMemory) }
 {
     values.sort_by(|a, b| sort_order(a, b))?;
     Ok(())
 }
 
-fn all<'a>(alloc: Global, values: &'a [Value]) -> Result<Vec<&'a Value>, Refusal>
+fn all<'a>(alloc: Global, values: &'a [Value]) -> Result<Vec<&'a Value>, AllocError>
     ensures ok { IfOk result (λ list. map (λ v. v.now) list.items ≡ values.now) }
-    ensures err { IfErr result (λ e. e ≡ Refusal.OutOfMemory) }
 {
     let mut list = Vec::with_capacity(alloc, values.len())?;
     for value in values {
@@ -29,10 +27,9 @@ fn all<'a>(alloc: Global, values: &'a [Value]) -> Result<Vec<&'a Value>, Refusal
 }
 
 /// The values in their order. Refuses for want of memory.
-pub fn sorted<'a>(alloc: Global, values: &'a [Value]) -> Result<Vec<&'a Value>, Refusal>
+pub fn sorted<'a>(alloc: Global, values: &'a [Value]) -> Result<Vec<&'a Value>, AllocError>
     ensures sorted { IfOk result (λ list. Climbs (map (λ v. v.now) list.items)) }
     ensures same { IfOk result (λ list. (x : V) → is_among (map (λ v. v.now) list.items) x ≡ is_among values.now x) }
-    ensures err { IfErr result (λ e. e ≡ Refusal.OutOfMemory) }
 {
     let mut list = all(alloc, values)?;
     match sort(&mut list) {

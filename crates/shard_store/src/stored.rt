@@ -1,5 +1,5 @@
 //! The tables of a shard. Changes are prepared with all their memory first, and then applied without any.
-ghost use Rattle.std.specs.Prelude.{◌≡◌, ◌==◌, ◌+◌, ◌<◌, ◌≤◌, ◌^◌, if◌then◌else◌, ◌++◌, ◌∷◌, [], ℕ, IsTrue, IsSome, map, OnOk, OnErr, IfOk, IfErr, length, slice_set, count_by, IsPermutation, sum_by, nat_le};
+ghost use Rattle.std.specs.Prelude.{◌≡◌, ◌==◌, ◌+◌, ◌<◌, ◌≤◌, ◌^◌, if◌then◌else◌, ◌++◌, ◌∷◌, [], ℕ, IsTrue, IsSome, map, OnOk, OnErr, IfOk, length, slice_set, count_by, IsPermutation, sum_by, nat_le};
 ghost use Rattle.std.specs.List.{AllByRecursion};
 ghost use Rattle.vschema.specs.declared.changes.RowChange.TheVariants.{Added, Replaced, Removed};
 ghost use Rattle.vschema.specs.Database.{SameRows, rows_of, without, changed_table, applied, all_applied};
@@ -14,10 +14,10 @@ use crate::key_values::KeyValues;
 use crate::shared_change::{ChangedRows, SharedChange};
 use crate::shared_row::SharedRow;
 use crate::table_rows::TableRows;
-use std::alloc::Global;
+use std::alloc::{AllocError, Global};
 use std::marker::Model;
 use vschema::Table;
-use vt_value::{Items, Refusal, Row};
+use vt_value::{Items, Row};
 
 /// The rows of a shard's tables, in the order of the VSchema. Contracts see a `StoreView`.
 #[derive(Drop)]
@@ -61,11 +61,10 @@ fn are_same(a: &RowKey, b: &RowKey) -> bool
 }
 
 // A row in another's place, of both of which another owner is made.
-fn swap_of(key: RowKey, old: &SharedRow, new: &SharedRow) -> Result<KeyedSwap, Refusal>
+fn swap_of(key: RowKey, old: &SharedRow, new: &SharedRow) -> Result<KeyedSwap, AllocError>
     ensures key { IfOk result (λ s. s.key ≡ key) }
     ensures old { IfOk result (λ s. s.old ≡ old.now) }
     ensures new { IfOk result (λ s. s.new ≡ new.now) }
-    ensures err { IfErr result (λ e. e ≡ Refusal.OutOfMemory) }
 {
     let old = old.clone()?;
     let new = new.clone()?;
@@ -83,12 +82,11 @@ fn sweep_tables(tables: &mut Vec<TableRows>)
 }
 
 // A snapshot of each table.
-fn snapshots(alloc: Global, tables: &mut Vec<TableRows>) -> Result<Vec<TableRows>, Refusal>
+fn snapshots(alloc: Global, tables: &mut Vec<TableRows>) -> Result<Vec<TableRows>, AllocError>
     ensures snapshot { IfOk result (λ list. map (λ t. t.rows) list.items ≡ map (λ t. t.rows) tables.old.items) }
     ensures columns { IfOk result (λ list. map (λ t. t.ordinals) list.items ≡ map (λ t. t.ordinals) tables.old.items) }
     ensures rows { map (λ t. t.rows) tables.new.items ≡ map (λ t. t.rows) tables.old.items }
     ensures ordinals { map (λ t. t.ordinals) tables.new.items ≡ map (λ t. t.ordinals) tables.old.items }
-    ensures err { IfErr result (λ e. e ≡ Refusal.OutOfMemory) }
 {
     let mut list = Vec::new(alloc);
     for ordinal in 0..tables.len() {
@@ -114,9 +112,8 @@ impl StoredTables {
     }
 
     /// Adds a table without rows after those that are there. Refuses for want of memory; then nothing has changed.
-    pub fn push_table(&mut self, alloc: Global, table: &Table) -> Result<(), Refusal>
+    pub fn push_table(&mut self, alloc: Global, table: &Table) -> Result<(), AllocError>
         ensures ok { OnOk result (self.new.rows ≡ self.old.rows ++ [] ∷ []) }
-        ensures err { IfErr result (λ e. e ≡ Refusal.OutOfMemory) }
         ensures unchanged { OnErr result (self.new ≡ self.old) }
     {
         let ordinals = key_ordinals(alloc, table)?;
@@ -152,9 +149,8 @@ impl StoredTables {
     }
 
     // The key of a row of the table at an ordinal.
-    fn key_of(&self, alloc: Global, ordinal: usize, row: &Row) -> Result<RowKey, Refusal>
+    fn key_of(&self, alloc: Global, ordinal: usize, row: &Row) -> Result<RowKey, AllocError>
         ensures ok { IfOk result (λ key. key.values ≡ key_at (ordinals_of self.now ordinal) row.now) }
-        ensures err { IfErr result (λ e. e ≡ Refusal.OutOfMemory) }
     {
         match self.tables.get(ordinal) {
             Some(table) => table.key_of(alloc, row),
@@ -166,10 +162,14 @@ impl StoredTables {
     }
 
     // The row, of which another owner is made, with its key.
-    fn keyed_row(&self, alloc: Global, ordinal: usize, row: &SharedRow) -> Result<KeyedRow, Refusal>
+    fn keyed_row(
+        &self,
+        alloc: Global,
+        ordinal: usize,
+        row: &SharedRow,
+    ) -> Result<KeyedRow, AllocError>
         ensures row { IfOk result (λ k. k.row ≡ row.now) }
         ensures key { IfOk result (λ k. k.key.values ≡ key_at (ordinals_of self.now ordinal) row.now) }
-        ensures err { IfErr result (λ e. e ≡ Refusal.OutOfMemory) }
     {
         let row = row.clone()?;
         match self.key_of(alloc, ordinal, row.get()) {
@@ -185,11 +185,10 @@ impl StoredTables {
         ordinal: usize,
         row: &SharedRow,
         keyed: &mut Vec<KeyedChange>,
-    ) -> Result<(), Refusal>
+    ) -> Result<(), AllocError>
         requires { AllByRecursion (IsByItsKey self.now) keyed.old.items }
         ensures keys { OnOk result (AllByRecursion (IsByItsKey self.now) keyed.new.items) }
         ensures changes { OnOk result (changes_in keyed.new.items ≡ changes_in keyed.old.items ++ Added ordinal row.now ∷ []) }
-        ensures err { IfErr result (λ e. e ≡ Refusal.OutOfMemory) }
     {
         let row = self.keyed_row(alloc, ordinal, row)?;
         keyed.push(KeyedChange::Put(ordinal, row))?;
@@ -203,11 +202,10 @@ impl StoredTables {
         ordinal: usize,
         row: &SharedRow,
         keyed: &mut Vec<KeyedChange>,
-    ) -> Result<(), Refusal>
+    ) -> Result<(), AllocError>
         requires { AllByRecursion (IsByItsKey self.now) keyed.old.items }
         ensures keys { OnOk result (AllByRecursion (IsByItsKey self.now) keyed.new.items) }
         ensures changes { OnOk result (changes_in keyed.new.items ≡ changes_in keyed.old.items ++ Removed ordinal row.now ∷ []) }
-        ensures err { IfErr result (λ e. e ≡ Refusal.OutOfMemory) }
     {
         let row = self.keyed_row(alloc, ordinal, row)?;
         keyed.push(KeyedChange::Take(ordinal, row))?;
@@ -222,11 +220,10 @@ impl StoredTables {
         old: &SharedRow,
         new: &SharedRow,
         keyed: &mut Vec<KeyedChange>,
-    ) -> Result<bool, Refusal>
+    ) -> Result<bool, AllocError>
         requires { AllByRecursion (IsByItsKey self.now) keyed.old.items }
         ensures keys { OnOk result (AllByRecursion (IsByItsKey self.now) keyed.new.items) }
         ensures changes { IfOk result (λ same. changes_in keyed.new.items ≡ (if same then changes_in keyed.old.items ++ Replaced ordinal old.now new.now ∷ [] else changes_in keyed.old.items)) }
-        ensures err { IfErr result (λ e. e ≡ Refusal.OutOfMemory) }
     {
         let old_key = self.key_of(alloc, ordinal, old.get())?;
         let key = self.key_of(alloc, ordinal, new.get())?;
@@ -244,11 +241,10 @@ impl StoredTables {
         alloc: Global,
         change: &SharedChange,
         keyed: &mut Vec<KeyedChange>,
-    ) -> Result<(), Refusal>
+    ) -> Result<(), AllocError>
         requires { AllByRecursion (IsByItsKey self.now) keyed.old.items }
         ensures keys { OnOk result (AllByRecursion (IsByItsKey self.now) keyed.new.items) }
         ensures changes { OnOk result (DoTheSame (changes_in keyed.new.items) (changes_in keyed.old.items ++ change.now ∷ [])) }
-        ensures err { IfErr result (λ e. e ≡ Refusal.OutOfMemory) }
     {
         match change.rows() {
             ChangedRows::Added(ordinal, row) => self.push_put(alloc, *ordinal, row, keyed),
@@ -268,10 +264,9 @@ impl StoredTables {
         &self,
         alloc: Global,
         changes: &[SharedChange],
-    ) -> Result<Vec<KeyedChange>, Refusal>
+    ) -> Result<Vec<KeyedChange>, AllocError>
         ensures keys { IfOk result (λ keyed. AllByRecursion (IsByItsKey self.now) keyed.items) }
         ensures changes { IfOk result (λ keyed. DoTheSame (changes_in keyed.items) changes.now) }
-        ensures err { IfErr result (λ e. e ≡ Refusal.OutOfMemory) }
     {
         let mut keyed = Vec::new(alloc);
         for change in changes {
@@ -287,7 +282,7 @@ impl StoredTables {
         ordinal: usize,
         key: &RowKey,
         additional: usize,
-    ) -> Result<(), Refusal>
+    ) -> Result<(), AllocError>
         requires { ordinal < length self.old.rows }
         ensures rows { self.new.rows ≡ self.old.rows }
         ensures ordinals { self.new.ordinals ≡ self.old.ordinals }
@@ -295,16 +290,14 @@ impl StoredTables {
         ensures ready { OnOk result (IsSome (slot_at (ready_of self.new ordinal) key.now)) }
         ensures still { (n : ℕ) (k : RowKey) → IsSome (slot_at (ready_of self.old n) k) → IsSome (slot_at (ready_of self.new n) k) }
         ensures room { (n : ℕ) → room_of self.old n ≤ room_of self.new n }
-        ensures err { IfErr result (λ e. e ≡ Refusal.OutOfMemory) }
     {
         self.tables[ordinal].make_room(alloc, key, additional)
     }
 
     // Makes memory to remember so many more keys of rows that are changed in the table at an ordinal.
-    fn reserve_freed(&mut self, ordinal: usize, additional: usize) -> Result<(), Refusal>
+    fn reserve_freed(&mut self, ordinal: usize, additional: usize) -> Result<(), AllocError>
         requires { ordinal < length self.old.rows }
         ensures unchanged { self.new ≡ self.old }
-        ensures err { IfErr result (λ e. e ≡ Refusal.OutOfMemory) }
     {
         self.tables[ordinal].reserve_freed(additional)
     }
@@ -315,7 +308,7 @@ impl StoredTables {
         alloc: Global,
         change: &KeyedChange,
         changes: usize,
-    ) -> Result<(), Refusal>
+    ) -> Result<(), AllocError>
         requires { changed_table (change_in change.now) < length self.old.rows }
         ensures rows { self.new.rows ≡ self.old.rows }
         ensures ordinals { self.new.ordinals ≡ self.old.ordinals }
@@ -323,7 +316,6 @@ impl StoredTables {
         ensures ready { OnOk result (HasReadySlot self.new change.now) }
         ensures still { (n : ℕ) (k : RowKey) → IsSome (slot_at (ready_of self.old n) k) → IsSome (slot_at (ready_of self.new n) k) }
         ensures room { (n : ℕ) → room_of self.old n ≤ room_of self.new n }
-        ensures err { IfErr result (λ e. e ≡ Refusal.OutOfMemory) }
     {
         let ordinal = ordinal_in(change);
         self.reserve_freed(ordinal, changes)?;
@@ -331,13 +323,12 @@ impl StoredTables {
     }
 
     // Makes memory for the changes.
-    fn reserve_all(&mut self, alloc: Global, keyed: &[KeyedChange]) -> Result<(), Refusal>
+    fn reserve_all(&mut self, alloc: Global, keyed: &[KeyedChange]) -> Result<(), AllocError>
         requires { AllByRecursion (λ c. changed_table (change_in c) < length self.old.rows) keyed.now }
         ensures rows { self.new.rows ≡ self.old.rows }
         ensures ordinals { self.new.ordinals ≡ self.old.ordinals }
         ensures ok { OnOk result (HasRoomFor self.new keyed.now) }
         ensures ready { OnOk result (AllByRecursion (HasReadySlot self.new) keyed.now) }
-        ensures err { IfErr result (λ e. e ≡ Refusal.OutOfMemory) }
     {
         for change in keyed {
             self.reserve_for(alloc, change, keyed.len())?;
@@ -350,12 +341,11 @@ impl StoredTables {
         &mut self,
         alloc: Global,
         changes: &[SharedChange],
-    ) -> Result<Vec<KeyedChange>, Refusal>
+    ) -> Result<Vec<KeyedChange>, AllocError>
         requires { AllByRecursion (λ c. changed_table c < length self.old.rows) changes.now }
         ensures ready { IfOk result (λ keyed. IsReadyFor self.new changes.now keyed.items) }
         ensures rows { self.new.rows ≡ self.old.rows }
         ensures ordinals { self.new.ordinals ≡ self.old.ordinals }
-        ensures err { IfErr result (λ e. e ≡ Refusal.OutOfMemory) }
     {
         let keyed = self.keyed_changes(alloc, changes)?;
         match self.reserve_all(alloc, keyed.as_slice()) {
@@ -470,12 +460,11 @@ impl StoredTables {
     // Promise: A snapshot has the rows of its moment
     /// The tables as they are now, whatever is changed in either later. Takes time for each table, and not for each row. What was made
     /// ready before has to be made ready again. Refuses for want of memory; the rows stay as they are.
-    pub fn snapshot(&mut self, alloc: Global) -> Result<StoredTables, Refusal>
+    pub fn snapshot(&mut self, alloc: Global) -> Result<StoredTables, AllocError>
         ensures snapshot { IfOk result (λ s. s.rows ≡ self.old.rows) }
         ensures columns { IfOk result (λ s. s.ordinals ≡ self.old.ordinals) }
         ensures rows { self.new.rows ≡ self.old.rows }
         ensures ordinals { self.new.ordinals ≡ self.old.ordinals }
-        ensures err { IfErr result (λ e. e ≡ Refusal.OutOfMemory) }
     {
         let tables = snapshots(alloc, &mut self.tables)?;
         Ok(StoredTables { tables })

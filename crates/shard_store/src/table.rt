@@ -17,10 +17,10 @@ use crate::slots::Slots;
 use crate::sorted::sorted;
 use crate::walk::{RowsAmong, RowsInOrder, RowsWith};
 use row_chunks::Walk;
-use std::alloc::Global;
+use std::alloc::{AllocError, Global};
 use std::marker::Model;
 use vschema::Table;
-use vt_value::{Items, Refusal, Row, Value, copy};
+use vt_value::{Items, Row, Value, copy};
 
 /// The rows of a table, each in the slot of its own key: the values of the table's key columns. No two rows have the same key.
 /// Contracts see the slots, in the order of the keys, and the ordinals of the key columns.
@@ -42,9 +42,8 @@ impl Model for StoredTable {
 }
 
 /// A copy of the value of a row at an ordinal: NULL after its last one. Refuses for want of memory.
-fn copy_at(alloc: Global, row: &Row, ordinal: usize) -> Result<Value, Refusal>
+fn copy_at(alloc: Global, row: &Row, ordinal: usize) -> Result<Value, AllocError>
     ensures ok { IfOk result (λ v. v ≡ value_at row.now ordinal) }
-    ensures err { IfErr result (λ e. e ≡ Refusal.OutOfMemory) }
 {
     match row.as_slice().get(ordinal) {
         Some(value) => copy(alloc, value),
@@ -52,9 +51,8 @@ fn copy_at(alloc: Global, row: &Row, ordinal: usize) -> Result<Value, Refusal>
     }
 }
 
-fn values_at(alloc: Global, ordinals: &[usize], row: &Row) -> Result<Row, Refusal>
+fn values_at(alloc: Global, ordinals: &[usize], row: &Row) -> Result<Row, AllocError>
     ensures ok { IfOk result (λ values. values ≡ key_at ordinals.now row.now) }
-    ensures err { IfErr result (λ e. e ≡ Refusal.OutOfMemory) }
 {
     let mut values = Items::new(alloc);
     for ordinal in ordinals {
@@ -64,9 +62,8 @@ fn values_at(alloc: Global, ordinals: &[usize], row: &Row) -> Result<Row, Refusa
 }
 
 // An equal list. Refuses for want of memory.
-fn copied(alloc: Global, ordinals: &[usize]) -> Result<Items<usize>, Refusal>
+fn copied(alloc: Global, ordinals: &[usize]) -> Result<Items<usize>, AllocError>
     ensures ok { IfOk result (λ list. list ≡ ordinals.now) }
-    ensures err { IfErr result (λ e. e ≡ Refusal.OutOfMemory) }
 {
     let mut list = Items::new(alloc);
     for ordinal in ordinals {
@@ -75,9 +72,8 @@ fn copied(alloc: Global, ordinals: &[usize]) -> Result<Items<usize>, Refusal>
     Ok(list)
 }
 
-fn key_values(alloc: Global, ordinals: &[usize], row: &Row) -> Result<KeyValues, Refusal>
+fn key_values(alloc: Global, ordinals: &[usize], row: &Row) -> Result<KeyValues, AllocError>
     ensures ok { IfOk result (λ values. values ≡ key_at ordinals.now row.now) }
-    ensures err { IfErr result (λ e. e ≡ Refusal.OutOfMemory) }
 {
     match ordinals {
         [ordinal] => KeyValues::of_one(alloc, copy_at(alloc, row, *ordinal)?),
@@ -106,9 +102,8 @@ impl StoredTable {
     }
 
     /// The key of a row of this table. Refuses for want of memory.
-    pub fn key_of(&self, alloc: Global, row: &Row) -> Result<RowKey, Refusal>
+    pub fn key_of(&self, alloc: Global, row: &Row) -> Result<RowKey, AllocError>
         ensures ok { IfOk result (λ key. key.values ≡ key_at self.now.ordinals row.now) }
-        ensures err { IfErr result (λ e. e ≡ Refusal.OutOfMemory) }
     {
         let values = key_values(alloc, self.ordinals.as_slice(), row)?;
         Ok(RowKey { values })
@@ -153,9 +148,8 @@ impl StoredTable {
     }
 
     // The rows from the key of a row on.
-    fn rows_from_row(&self, alloc: Global, row: &Row) -> Result<RowsInOrder<'_>, Refusal>
+    fn rows_from_row(&self, alloc: Global, row: &Row) -> Result<RowsInOrder<'_>, AllocError>
         ensures ok { IfOk result (λ rows. rows ≡ rows_in (slots_from (record { values = key_at self.now.ordinals row.now }) self.now.slots)) }
-        ensures err { IfErr result (λ e. e ≡ Refusal.OutOfMemory) }
     {
         let key = self.key_of(alloc, row)?;
         Ok(self.slots.rows_from(&key))
@@ -168,11 +162,10 @@ impl StoredTable {
         table: &Table,
         in_order: bool,
         last: Option<&Row>,
-    ) -> Result<RowsInOrder<'_>, Refusal>
+    ) -> Result<RowsInOrder<'_>, AllocError>
         requires { IsTrue in_order → self.now.ordinals ≡ table.now.primary_key }
         ensures rows { IfOk result (λ rows. filter (comes_after table.now (option_copied last.entry)) rows ≡ filter (comes_after table.now (option_copied last.entry)) (rows_in self.now.slots)) }
         ensures order { IfOk result (λ rows. IsTrue in_order → IsInOrder table.now rows) }
-        ensures err { IfErr result (λ e. e ≡ Refusal.OutOfMemory) }
     {
         let _slots = self.slots.len();
         match last {
@@ -182,10 +175,13 @@ impl StoredTable {
     }
 
     /// The rows whose first key column has a value, in the order of their keys. Refuses for want of memory for that value's key.
-    pub fn rows_with<'a>(&'a self, alloc: Global, value: &'a Value) -> Result<RowsWith<'a>, Refusal>
+    pub fn rows_with<'a>(
+        &'a self,
+        alloc: Global,
+        value: &'a Value,
+    ) -> Result<RowsWith<'a>, AllocError>
         requires { 0 < length self.now.ordinals }
         ensures ok { IfOk result (λ rows. rows ≡ filter (begins_with self.now.ordinals value.now) (rows_in self.now.slots)) }
-        ensures err { IfErr result (λ e. e ≡ Refusal.OutOfMemory) }
     {
         let rows = self.slots.rows_with(alloc, value)?;
         Ok(rows)
@@ -196,10 +192,9 @@ impl StoredTable {
         &'a self,
         alloc: Global,
         values: &'a [Value],
-    ) -> Result<RowsAmong<'a>, Refusal>
+    ) -> Result<RowsAmong<'a>, AllocError>
         requires { 0 < length self.now.ordinals }
         ensures ok { IfOk result (λ rows. rows ≡ filter (λ row. is_among values.now (value_at row (slice_index self.now.ordinals 0))) (rows_in self.now.slots)) }
-        ensures err { IfErr result (λ e. e ≡ Refusal.OutOfMemory) }
     {
         let sorted = sorted(alloc, values)?;
         let rows = self.slots.rows_among(alloc, sorted.as_slice())?;
@@ -234,7 +229,7 @@ impl StoredTable {
     }
 
     /// Makes a slot for a key, if it has none, and has it ready. Refuses for want of memory; the slots stay as they are.
-    pub fn reserve(&mut self, alloc: Global, key: &RowKey) -> Result<(), Refusal>
+    pub fn reserve(&mut self, alloc: Global, key: &RowKey) -> Result<(), AllocError>
         ensures rows { rows_in self.new.slots ≡ rows_in self.old.slots }
         ensures ok { OnOk result (IsSome (slot_at self.new.slots key.now)) }
         ensures ready { OnOk result (IsSome (slot_at self.new.ready key.now)) }
@@ -242,7 +237,6 @@ impl StoredTable {
         ensures still { (k : RowKey) → IsSome (slot_at self.old.ready k) → IsSome (slot_at self.new.ready k) }
         ensures slots { OnOk result (self.new.slots ≡ (if is_some (slot_at self.old.slots key.now) then self.old.slots else with_slot key.now self.old.slots)) }
         ensures ordinals { self.new.ordinals ≡ self.old.ordinals }
-        ensures err { IfErr result (λ e. e ≡ Refusal.OutOfMemory) }
         ensures unchanged { OnErr result (self.new.slots ≡ self.old.slots) }
     {
         self.slots.reserve(alloc, key)
@@ -267,12 +261,11 @@ impl StoredTable {
 
     /// The table as it is now, whatever is changed in either later. Takes the same time for any number of rows. No slot is ready then.
     /// Refuses for want of memory; the slots stay as they are.
-    pub fn snapshot(&mut self, alloc: Global) -> Result<StoredTable, Refusal>
+    pub fn snapshot(&mut self, alloc: Global) -> Result<StoredTable, AllocError>
         ensures snapshot { IfOk result (λ t. t.slots ≡ self.old.slots) }
         ensures columns { IfOk result (λ t. t.ordinals ≡ self.old.ordinals) }
         ensures slots { self.new.slots ≡ self.old.slots }
         ensures ordinals { self.new.ordinals ≡ self.old.ordinals }
-        ensures err { IfErr result (λ e. e ≡ Refusal.OutOfMemory) }
     {
         let ordinals = copied(alloc, self.ordinals.as_slice())?;
         let slots = self.slots.snapshot(alloc)?;

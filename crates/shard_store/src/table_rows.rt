@@ -1,5 +1,5 @@
 //! The rows of a table, without a promise that their keys differ: a row lies in the slot of its key, or in a list if another row has that slot.
-ghost use Rattle.std.specs.Prelude.{◌≡◌, ◌+◌, ◌-◌, ◌<◌, ◌≤◌, ◌++◌, ◌∷◌, [], IsSome, IfOk, IfErr, OnOk, IsPermutation, length, position, vec_len, vec_capacity};
+ghost use Rattle.std.specs.Prelude.{◌≡◌, ◌+◌, ◌-◌, ◌<◌, ◌≤◌, ◌++◌, ◌∷◌, [], IsSome, IfOk, OnOk, IsPermutation, length, position, vec_len, vec_capacity};
 ghost use Rattle.vschema.specs.Database.{same_row, without};
 ghost use Rattle.shard_store.specs.Slots.{rows_in, slot_at};
 ghost use Rattle.shard_store.specs.Tables.{key_at};
@@ -9,9 +9,9 @@ use crate::shared_row::{SharedRow, SharedRows};
 use crate::table::StoredTable;
 use crate::walk::AllRows;
 use sql_eval::same_row;
-use std::alloc::Global;
+use std::alloc::{AllocError, Global};
 use std::marker::Model;
-use vt_value::{Items, Refusal, Row};
+use vt_value::{Items, Row};
 
 // The ordinal of the first row that is this one.
 fn ordinal_of(rows: &[SharedRow], row: &Row) -> Option<usize>
@@ -60,9 +60,8 @@ fn close_slots(stored: &mut StoredTable, keys: &mut Vec<ChangedKey>)
 }
 
 // Other owners of the rows.
-fn shared(alloc: Global, rows: &[SharedRow]) -> Result<Vec<SharedRow>, Refusal>
+fn shared(alloc: Global, rows: &[SharedRow]) -> Result<Vec<SharedRow>, AllocError>
     ensures ok { IfOk result (λ list. list.items ≡ rows.now) }
-    ensures err { IfErr result (λ e. e ≡ Refusal.OutOfMemory) }
 {
     let mut list = Vec::new(alloc);
     for row in rows {
@@ -105,9 +104,8 @@ impl TableRows {
     }
 
     /// The key of a row of this table. Refuses for want of memory.
-    pub fn key_of(&self, alloc: Global, row: &Row) -> Result<RowKey, Refusal>
+    pub fn key_of(&self, alloc: Global, row: &Row) -> Result<RowKey, AllocError>
         ensures ok { IfOk result (λ key. key.values ≡ key_at self.now.ordinals row.now) }
-        ensures err { IfErr result (λ e. e ≡ Refusal.OutOfMemory) }
     {
         self.stored.key_of(alloc, row)
     }
@@ -130,26 +128,24 @@ impl TableRows {
     }
 
     // Makes memory for so many more rows without slots.
-    fn reserve(&mut self, additional: usize) -> Result<(), Refusal>
+    fn reserve(&mut self, additional: usize) -> Result<(), AllocError>
         ensures rows { self.new.rows ≡ self.old.rows }
         ensures ordinals { self.new.ordinals ≡ self.old.ordinals }
         ensures ready { self.new.ready ≡ self.old.ready }
         ensures room { self.old.room ≤ self.new.room }
         ensures ok { OnOk result (additional ≤ self.new.room) }
-        ensures err { IfErr result (λ e. e ≡ Refusal.OutOfMemory) }
     {
         self.unslotted.reserve(additional)?;
         Ok(())
     }
 
     // Makes a slot for a key, if it has none, and has it ready.
-    fn reserve_slot(&mut self, alloc: Global, key: &RowKey) -> Result<(), Refusal>
+    fn reserve_slot(&mut self, alloc: Global, key: &RowKey) -> Result<(), AllocError>
         ensures rows { self.new.rows ≡ self.old.rows }
         ensures ordinals { self.new.ordinals ≡ self.old.ordinals }
         ensures room { self.new.room ≡ self.old.room }
         ensures ready { OnOk result (IsSome (slot_at self.new.ready key.now)) }
         ensures still { (k : RowKey) → IsSome (slot_at self.old.ready k) → IsSome (slot_at self.new.ready k) }
-        ensures err { IfErr result (λ e. e ≡ Refusal.OutOfMemory) }
     {
         self.stored.reserve(alloc, key)
     }
@@ -160,14 +156,13 @@ impl TableRows {
         alloc: Global,
         key: &RowKey,
         additional: usize,
-    ) -> Result<(), Refusal>
+    ) -> Result<(), AllocError>
         ensures rows { self.new.rows ≡ self.old.rows }
         ensures ordinals { self.new.ordinals ≡ self.old.ordinals }
         ensures room { self.old.room ≤ self.new.room }
         ensures ok { OnOk result (additional ≤ self.new.room) }
         ensures ready { OnOk result (IsSome (slot_at self.new.ready key.now)) }
         ensures still { (k : RowKey) → IsSome (slot_at self.old.ready k) → IsSome (slot_at self.new.ready k) }
-        ensures err { IfErr result (λ e. e ≡ Refusal.OutOfMemory) }
     {
         self.reserve(additional)?;
         self.reserve_slot(alloc, key)
@@ -229,9 +224,8 @@ impl TableRows {
     }
 
     /// Makes memory to remember so many more keys of changed rows. Refuses for want of memory; the rows stay as they are.
-    pub fn reserve_freed(&mut self, additional: usize) -> Result<(), Refusal>
+    pub fn reserve_freed(&mut self, additional: usize) -> Result<(), AllocError>
         ensures unchanged { self.new ≡ self.old }
-        ensures err { IfErr result (λ e. e ≡ Refusal.OutOfMemory) }
     {
         self.changed.reserve(additional)?;
         Ok(())
@@ -272,13 +266,12 @@ impl TableRows {
 
     /// The table as it is now, whatever is changed in either later. Takes the same time for any number of rows in slots. No slot is ready
     /// then. Refuses for want of memory; the rows stay as they are.
-    pub fn snapshot(&mut self, alloc: Global) -> Result<TableRows, Refusal>
+    pub fn snapshot(&mut self, alloc: Global) -> Result<TableRows, AllocError>
         ensures snapshot { IfOk result (λ t. t.rows ≡ self.old.rows) }
         ensures columns { IfOk result (λ t. t.ordinals ≡ self.old.ordinals) }
         ensures rows { self.new.rows ≡ self.old.rows }
         ensures ordinals { self.new.ordinals ≡ self.old.ordinals }
         ensures room { self.new.room ≡ self.old.room }
-        ensures err { IfErr result (λ e. e ≡ Refusal.OutOfMemory) }
     {
         let unslotted = shared(alloc, self.unslotted.as_slice())?;
         let stored = self.stored.snapshot(alloc)?;

@@ -5,7 +5,6 @@ use Rattle.std.specs.List.{list_any}
 use Rattle.std.specs.Ordering.{is_lt}
 use Rattle.std.proofs.lemmas.List.{get_or-map, length-map, take-map, drop-map}
 use Rattle.std.proofs.lemmas.List.Sorted.{IsPermutation-map}
-use Rattle.vt_value.specs.declared.refusal.Refusal.{Refusal}
 use Rattle.sql_tree.specs.declared.Key.{Key}
 use Rattle.vt_value.specs.Values.{Row, value_at}
 use Rattle.sql_tree.specs.declared.Item.{Item}
@@ -91,12 +90,12 @@ group_answer q rows kept list grouped is (sorted, permuted, ascending, shown) = 
       ∙ ap (map (λ (r : Keyed). r.0)) (sym (sliced_map (keyed_wide q) q.limit sorted)),
 )
 
-pub answered : (q : Query) (rows kept : List Row) (result : Result (List Row) Refusal) → is_aggregated q ≡ false → kept ≡ filter (is_kept q.filter) rows
+pub answered : {E : Type 0} (q : Query) (rows kept : List Row) (result : Result (List Row) E) → is_aggregated q ≡ false → kept ≡ filter (is_kept q.filter) rows
     → IfOk result (IsSortedSlice q.order_by q.limit (map shown_ordinal q.items) kept) → IfOk result (IsAnswer q rows)
 answered q rows kept (Ok list) plain is shown = plain_answer q rows kept list plain is shown
 answered q rows kept (Err e) plain is shown = cc
 
-pub groups_answered : (q : Query) (rows kept : List Row) (result : Result (List Row) Refusal) → is_aggregated q ≡ true → kept ≡ filter (is_kept q.filter) rows
+pub groups_answered : {E : Type 0} (q : Query) (rows kept : List Row) (result : Result (List Row) E) → is_aggregated q ≡ true → kept ≡ filter (is_kept q.filter) rows
     → IfOk result (IsSortedSlice (group_order q) q.limit (group_columns q) (grouped_rows q kept)) → IfOk result (IsAnswer q rows)
 groups_answered q rows kept (Ok list) grouped is shown = group_answer q rows kept list grouped is shown
 groups_answered q rows kept (Err e) grouped is shown = cc

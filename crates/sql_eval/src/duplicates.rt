@@ -1,5 +1,5 @@
 //! Whether an INSERT has a primary key that is there already, or one twice.
-ghost use Rattle.std.specs.Prelude.{◌≡◌, ◌||◌, IfOk, IfErr, OnOk, IsPermutation, IsSorted, map};
+ghost use Rattle.std.specs.Prelude.{◌≡◌, ◌||◌, IfOk, OnOk, IsPermutation, IsSorted, map};
 ghost use Rattle.std.specs.List.{list_any};
 ghost use Rattle.vt_value.specs.Values.{value_at, value_cmp};
 ghost use Rattle.vschema.specs.Schema.{key_of};
@@ -9,10 +9,10 @@ ghost use Rattle.sql_eval.specs.KeyOrder.{on_lent, key_cmp};
 ghost use Rattle.sql_eval.specs.inner.Keys.{is_twin, has_twins, shares_key};
 
 use crate::rows::{has_key, same_key, value_at};
-use std::alloc::Global;
+use std::alloc::{AllocError, Global};
 use std::cmp::Ordering;
 use vschema::Table;
-use vt_value::{Refusal, Row, Value, sort_order};
+use vt_value::{Row, Value, sort_order};
 
 /// So many rows are compared pair by pair, which takes no memory.
 const FEW: usize = 4;
@@ -48,9 +48,8 @@ fn key_order(table: &Table, a: &Row, b: &Row) -> Ordering
     Ordering::Equal
 }
 
-fn lent(alloc: Global, rows: &[Row]) -> Result<Vec<&Row>, Refusal>
+fn lent(alloc: Global, rows: &[Row]) -> Result<Vec<&Row>, AllocError>
     ensures ok { IfOk result (λ list. map (λ row. row.now) list.items ≡ rows.now) }
-    ensures err { IfErr result (λ e. e ≡ Refusal.OutOfMemory) }
 {
     let mut list = Vec::with_capacity(alloc, rows.len())?;
     for row in rows {
@@ -59,10 +58,9 @@ fn lent(alloc: Global, rows: &[Row]) -> Result<Vec<&Row>, Refusal>
     Ok(list)
 }
 
-fn sort(rows: &mut Vec<&Row>, table: &Table) -> Result<(), Refusal>
+fn sort(rows: &mut Vec<&Row>, table: &Table) -> Result<(), AllocError>
     ensures permutation { IsPermutation rows.old.items rows.new.items }
     ensures sorted { OnOk result (IsSorted (on_lent (key_cmp table.now)) rows.new.items) }
-    ensures err { IfErr result (λ e. e ≡ Refusal.OutOfMemory) }
 {
     rows.sort_by(|a, b| key_order(table, a, b))?;
     Ok(())
@@ -73,10 +71,9 @@ pub fn in_key_order<'r>(
     alloc: Global,
     table: &Table,
     rows: &'r [Row],
-) -> Result<Vec<&'r Row>, Refusal>
+) -> Result<Vec<&'r Row>, AllocError>
     ensures permutation { IfOk result (λ list. IsPermutation rows.now (map (λ row. row.now) list.items)) }
     ensures sorted { IfOk result (λ list. IsSorted (on_lent (key_cmp table.now)) list.items) }
-    ensures err { IfErr result (λ e. e ≡ Refusal.OutOfMemory) }
 {
     let mut list = lent(alloc, rows)?;
     match sort(&mut list, table) {
@@ -142,9 +139,8 @@ pub fn has_duplicate(
     table: &Table,
     rows: &[Row],
     new: &[Row],
-) -> Result<bool, Refusal>
+) -> Result<bool, AllocError>
     ensures ok { IfOk result (λ has. has ≡ has_duplicate table.now rows.now new.now) }
-    ensures err { IfErr result (λ e. e ≡ Refusal.OutOfMemory) }
 {
     if new.len() <= FEW {
         return Ok(has_duplicate_pair(table, rows, new));

@@ -1,5 +1,5 @@
 //! Conditions that are tested at many rows: the members of a long IN are put in order first.
-ghost use Rattle.std.specs.Prelude.{◌≡◌, List, IfSome, IfOk, IfErr, OnOk, IsPermutation, IsSorted, map};
+ghost use Rattle.std.specs.Prelude.{◌≡◌, List, IfSome, IfOk, OnOk, IsPermutation, IsSorted, map};
 ghost use Rattle.std.specs.List.{list_any, list_all};
 ghost use Rattle.vt_value.specs.declared.value.Value.{Value as V};
 ghost use Rattle.vt_value.specs.declared.value.Comparison.TheVariants.{Eq};
@@ -11,9 +11,9 @@ ghost use Rattle.sql_eval.specs.inner.Tests.{passes, AreTestsOf};
 
 use crate::conditions::{Seen, is_null_value, keeps, operand, truth_of};
 use sql_tree::{Condition, Operand};
-use std::alloc::Global;
+use std::alloc::{AllocError, Global};
 use std::marker::Model;
-use vt_value::{Items, Refusal, Row, Truth, Value, sort_order};
+use vt_value::{Items, Row, Truth, Value, sort_order};
 
 /// So many members are looked through one by one, which takes no memory.
 const FEW: usize = 16;
@@ -37,9 +37,8 @@ impl<'m> Model for Sorted<'m> {
     ghost invariant = { λ s. IsSorted (on_lent value_cmp) s.values.items };
 }
 
-fn lent(alloc: Global, values: &[Value]) -> Result<Vec<&Value>, Refusal>
+fn lent(alloc: Global, values: &[Value]) -> Result<Vec<&Value>, AllocError>
     ensures ok { IfOk result (λ list. map (λ v. v.now) list.items ≡ values.now) }
-    ensures err { IfErr result (λ e. e ≡ Refusal.OutOfMemory) }
 {
     let mut list = Vec::with_capacity(alloc, values.len())?;
     for value in values {
@@ -48,19 +47,17 @@ fn lent(alloc: Global, values: &[Value]) -> Result<Vec<&Value>, Refusal>
     Ok(list)
 }
 
-fn sort(values: &mut Vec<&Value>) -> Result<(), Refusal>
+fn sort(values: &mut Vec<&Value>) -> Result<(), AllocError>
     ensures permutation { IsPermutation values.old.items values.new.items }
     ensures sorted { OnOk result (IsSorted (on_lent value_cmp) values.new.items) }
-    ensures err { IfErr result (λ e. e ≡ Refusal.OutOfMemory) }
 {
     values.sort_by(|a, b| sort_order(a, b))?;
     Ok(())
 }
 
 impl<'m> Sorted<'m> {
-    fn of(alloc: Global, values: &'m [Value]) -> Result<Sorted<'m>, Refusal>
+    fn of(alloc: Global, values: &'m [Value]) -> Result<Sorted<'m>, AllocError>
         ensures ok { IfOk result (λ sorted. IsPermutation values.now sorted) }
-        ensures err { IfErr result (λ e. e ≡ Refusal.OutOfMemory) }
     {
         let mut list = lent(alloc, values)?;
         match sort(&mut list) {
@@ -107,9 +104,8 @@ fn among<'c>(
     alloc: Global,
     operand: &'c Operand<usize>,
     members: &'c [Value],
-) -> Result<Test<'c>, Refusal>
+) -> Result<Test<'c>, AllocError>
     ensures ok { IfOk result (λ test. (row : List V) → passes row test ≡ is_true (in_list (operand_value row operand.now) members.now)) }
-    ensures err { IfErr result (λ e. e ≡ Refusal.OutOfMemory) }
 {
     match Sorted::of(alloc, members) {
         Ok(sorted) => Ok(Test::Among(operand, sorted)),
@@ -118,9 +114,8 @@ fn among<'c>(
 }
 
 impl<'c> Test<'c> {
-    fn of(alloc: Global, condition: &'c Condition<usize>) -> Result<Test<'c>, Refusal>
+    fn of(alloc: Global, condition: &'c Condition<usize>) -> Result<Test<'c>, AllocError>
         ensures ok { IfOk result (λ test. (row : List V) → passes row test ≡ is_true (truth_at row condition.now)) }
-        ensures err { IfErr result (λ e. e ≡ Refusal.OutOfMemory) }
     {
         match condition {
             Condition::In(operand, members) if members.len() > FEW => {
@@ -147,9 +142,11 @@ fn all_pass(tests: &[Test], values: Seen) -> bool
     tests.iter().all(|test| test.passes(values))
 }
 
-fn all_tests<'c>(alloc: Global, members: &'c [Condition<usize>]) -> Result<Items<Test<'c>>, Refusal>
+fn all_tests<'c>(
+    alloc: Global,
+    members: &'c [Condition<usize>],
+) -> Result<Items<Test<'c>>, AllocError>
     ensures ok { IfOk result (λ tests. (row : List V) → list_all (passes row) tests ≡ list_all (λ c. is_true (truth_at row c)) members.now) }
-    ensures err { IfErr result (λ e. e ≡ Refusal.OutOfMemory) }
 {
     let mut tests = Items::from_vec(Vec::with_capacity(alloc, members.len())?);
     for member in members {
@@ -162,9 +159,8 @@ fn all_tests<'c>(alloc: Global, members: &'c [Condition<usize>]) -> Result<Items
 fn tests_of_tree<'c>(
     alloc: Global,
     condition: &'c Condition<usize>,
-) -> Result<Option<Items<Test<'c>>>, Refusal>
+) -> Result<Option<Items<Test<'c>>>, AllocError>
     ensures ok { IfOk result (λ tests. IfSome tests (λ list. (row : List V) → is_true (truth_at row condition.now) ≡ list_all (passes row) list)) }
-    ensures err { IfErr result (λ e. e ≡ Refusal.OutOfMemory) }
 {
     match condition {
         Condition::And(members) if has_long(members.as_slice()) => {
@@ -185,9 +181,8 @@ fn tests_of_tree<'c>(
 fn tests_of<'c>(
     alloc: Global,
     condition: &'c Option<Condition<usize>>,
-) -> Result<Option<Items<Test<'c>>>, Refusal>
+) -> Result<Option<Items<Test<'c>>>, AllocError>
     ensures ok { IfOk result (λ tests. AreTestsOf condition.now tests) }
-    ensures err { IfErr result (λ e. e ≡ Refusal.OutOfMemory) }
 {
     match condition {
         Some(condition) => tests_of_tree(alloc, condition),
@@ -222,9 +217,11 @@ impl<'c> Model for Filter<'c> {
 
 impl<'c> Filter<'c> {
     /// Refuses only for want of memory.
-    pub fn of(alloc: Global, condition: &'c Option<Condition<usize>>) -> Result<Filter<'c>, Refusal>
+    pub fn of(
+        alloc: Global,
+        condition: &'c Option<Condition<usize>>,
+    ) -> Result<Filter<'c>, AllocError>
         ensures ok { IfOk result (λ filter. filter ≡ condition.now) }
-        ensures err { IfErr result (λ e. e ≡ Refusal.OutOfMemory) }
     {
         let tests = tests_of(alloc, condition)?;
         Ok(Filter { condition, tests })

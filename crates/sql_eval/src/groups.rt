@@ -1,5 +1,5 @@
 //! The groups of aggregated queries.
-ghost use Rattle.std.specs.Prelude.{◌≡◌, IfOk, IfErr, map, filter, length, unwrap_or};
+ghost use Rattle.std.specs.Prelude.{◌≡◌, IfOk, map, filter, length, unwrap_or};
 ghost use Rattle.aggregate.specs.Groups.{AreSummable};
 ghost use Rattle.vschema.specs.Checks.{is_aggregate};
 ghost use Rattle.vschema.specs.FirstOrdinals.{first_ordinal};
@@ -13,9 +13,9 @@ use crate::source::{RowSource, next_passing};
 use aggregate::GroupMerge;
 use operators::{Operator, collect, project_row};
 use sql_tree::{Item, Key};
-use std::alloc::Global;
+use std::alloc::{AllocError, Global};
 use vschema::{FirstOrdinals, Hashing, Query};
-use vt_value::{Items, Refusal, Row, Value, copy};
+use vt_value::{Items, Row, Value, copy};
 
 /// How parts are joined to groups.
 #[derive(Drop)]
@@ -58,9 +58,8 @@ pub fn copy_item(item: &Item<usize>) -> Item<usize>
     }
 }
 
-fn aggregates_of(alloc: Global, items: &[Item<usize>]) -> Result<Items<Item<usize>>, Refusal>
+fn aggregates_of(alloc: Global, items: &[Item<usize>]) -> Result<Items<Item<usize>>, AllocError>
     ensures ok { IfOk result (λ list. list ≡ aggregates_of items.now) }
-    ensures err { IfErr result (λ e. e ≡ Refusal.OutOfMemory) }
 {
     let mut list = Items::new(alloc);
     for item in items {
@@ -75,9 +74,8 @@ impl Grouping {
     // Promise: How groups are made of parts, and shown
     // With: Grouping::joined, group_columns, group_order, copy_item
     /// The grouping of an aggregated query. Refuses only for want of memory.
-    pub fn of(alloc: Global, query: &Query) -> Result<Grouping, Refusal>
+    pub fn of(alloc: Global, query: &Query) -> Result<Grouping, AllocError>
         ensures ok { IfOk result (λ grouping. grouping ≡ grouping_of query.now) }
-        ensures err { IfErr result (λ e. e ≡ Refusal.OutOfMemory) }
     {
         let aggregates = aggregates_of(alloc, query.items.as_slice())?;
         Ok(Grouping {
@@ -89,10 +87,9 @@ impl Grouping {
 
     /// One row for each group of the input's parts: its values, and then what its parts give together. Refuses only for want of
     /// memory.
-    pub fn joined<O: Operator>(&self, alloc: Global, parts: O) -> Result<Items<Row>, Refusal>
+    pub fn joined<O: Operator>(&self, alloc: Global, parts: O) -> Result<Items<Row>, AllocError>
         requires { AreSummable self.now.width (O.to_come parts) }
         ensures ok { IfOk result (λ rows. rows ≡ grouped self.now (O.to_come parts)) }
-        ensures err { IfErr result (λ e. e ≡ Refusal.OutOfMemory) }
     {
         let hasher = self.hashing.hasher();
         let aggregates = self.aggregates.as_slice();
@@ -111,9 +108,8 @@ fn one_of(value: &Value) -> Value
 }
 
 /// The part of an aggregate that a row is.
-fn part_value(alloc: Global, row: &Row, aggregate: &Item<usize>) -> Result<Value, Refusal>
+fn part_value(alloc: Global, row: &Row, aggregate: &Item<usize>) -> Result<Value, AllocError>
     ensures ok { IfOk result (λ value. value ≡ row_part row.now aggregate.now) }
-    ensures err { IfErr result (λ e. e ≡ Refusal.OutOfMemory) }
 {
     let null = Value::Null;
     match aggregate {
@@ -131,9 +127,8 @@ fn part_row(
     columns: &[usize],
     aggregates: &[Item<usize>],
     row: &Row,
-) -> Result<Row, Refusal>
+) -> Result<Row, AllocError>
     ensures ok { IfOk result (λ part. part ≡ part_row columns.now aggregates.now row.now) }
-    ensures err { IfErr result (λ e. e ≡ Refusal.OutOfMemory) }
 {
     let mut part = project_row(alloc, columns, row)?;
     for aggregate in aggregates {
@@ -154,10 +149,9 @@ pub struct Parts<'a, S> {
 
 impl<'a, S: RowSource<'a>> Parts<'a, S> {
     /// The parts of the groups of an aggregated query. Refuses only for want of memory.
-    pub fn of(alloc: Global, query: &'a Query, rows: S) -> Result<Parts<'a, S>, Refusal>
+    pub fn of(alloc: Global, query: &'a Query, rows: S) -> Result<Parts<'a, S>, AllocError>
         ensures ok { IfOk result (λ parts. ⟦<Parts<'a, S> as Operator>⟧.to_come parts
             ≡ map (part_row query.now.group_by (aggregates_of query.now.items)) (filter (is_kept query.now.filter) (S.to_come rows))) }
-        ensures err { IfErr result (λ e. e ≡ Refusal.OutOfMemory) }
     {
         let aggregates = aggregates_of(alloc, query.items.as_slice())?;
         Ok(Parts {
@@ -179,9 +173,9 @@ impl<'a, S: RowSource<'a>> Operator for Parts<'a, S> {
 
     ghost has_failed = { λ parts. parts.failed };
 
-    fn next(&mut self, alloc: Global) -> Result<Option<Row>, Refusal> {
+    fn next(&mut self, alloc: Global) -> Result<Option<Row>, AllocError> {
         if self.failed {
-            return Err(Refusal::OutOfMemory);
+            return Err(AllocError);
         }
         let Some(row) = next_passing(&self.condition, &mut self.rows) else {
             return Ok(None);
@@ -203,9 +197,8 @@ fn item_ordinals(
     columns: &[usize],
     items: &[Item<usize>],
     other: usize,
-) -> Result<Items<usize>, Refusal>
+) -> Result<Items<usize>, AllocError>
     ensures ok { IfOk result (λ ordinals. ordinals ≡ item_ordinals other columns.now (length columns.now) items.now) }
-    ensures err { IfErr result (λ e. e ≡ Refusal.OutOfMemory) }
 {
     let first = FirstOrdinals::of(alloc, columns)?;
     let mut ordinals = Items::new(alloc);
@@ -222,9 +215,8 @@ fn item_ordinals(
 }
 
 /// The ordinals of an aggregated query's items in the rows of its groups. Refuses only for want of memory.
-pub fn group_columns(alloc: Global, query: &Query) -> Result<Items<usize>, Refusal>
+pub fn group_columns(alloc: Global, query: &Query) -> Result<Items<usize>, AllocError>
     ensures ok { IfOk result (λ ordinals. ordinals ≡ group_columns query.now) }
-    ensures err { IfErr result (λ e. e ≡ Refusal.OutOfMemory) }
 {
     let columns = query.group_by.as_slice();
     let items = query.items.as_slice();
@@ -236,9 +228,8 @@ fn placed_keys(
     columns: &[usize],
     keys: &[Key<usize>],
     other: usize,
-) -> Result<Items<Key<usize>>, Refusal>
+) -> Result<Items<Key<usize>>, AllocError>
     ensures ok { IfOk result (λ placed. placed ≡ map (placed_key other columns.now) keys.now) }
-    ensures err { IfErr result (λ e. e ≡ Refusal.OutOfMemory) }
 {
     let first = FirstOrdinals::of(alloc, columns)?;
     let mut placed = Items::new(alloc);
@@ -252,9 +243,8 @@ fn placed_keys(
 }
 
 /// The sort keys of an aggregated query, by the ordinals of their columns in the rows of its groups. Refuses only for want of memory.
-pub fn group_order(alloc: Global, query: &Query) -> Result<Items<Key<usize>>, Refusal>
+pub fn group_order(alloc: Global, query: &Query) -> Result<Items<Key<usize>>, AllocError>
     ensures ok { IfOk result (λ keys. keys ≡ group_order query.now) }
-    ensures err { IfErr result (λ e. e ≡ Refusal.OutOfMemory) }
 {
     let columns = query.group_by.as_slice();
     let other = columns.len() + query.items.as_slice().len();

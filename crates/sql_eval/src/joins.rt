@@ -1,5 +1,5 @@
 //! Queries over the pairs of a join. A pair is tested as it is in its two rows, and only one that is kept is copied.
-ghost use Rattle.std.specs.Prelude.{◌≡◌, List, [], ◌∷◌, ◌++◌, false, MatchOption, IfOk, IfErr, filter};
+ghost use Rattle.std.specs.Prelude.{◌≡◌, List, [], ◌∷◌, ◌++◌, false, MatchOption, IfOk, filter};
 ghost use Rattle.vt_value.specs.declared.value.Value.{Value as V};
 ghost use Rattle.vschema.specs.Checks.{is_aggregated};
 ghost use Rattle.vschema.specs.Sources.{padded_row, is_pair, pairs_of};
@@ -13,9 +13,9 @@ use crate::queries::{show, shown_ordinals};
 use crate::rows::value_at;
 use operators::{Limit, Operator, Project, collect};
 use sql_tree::{Condition, Key};
-use std::alloc::Global;
+use std::alloc::{AllocError, Global};
 use vschema::{Join, Query};
-use vt_value::{Comparison, Items, Refusal, Row, Truth, Value, compare, copy, copy_row};
+use vt_value::{Comparison, Items, Row, Truth, Value, compare, copy, copy_row};
 
 /// Lends pairs of rows, one at a time.
 pub trait PairSource<'a>: Drop {
@@ -23,11 +23,10 @@ pub trait PairSource<'a>: Drop {
     ghost to_come: { Self → List (List V) };
 
     /// The next pair, or `None` if no pair is left. Refuses for want of memory.
-    fn next_pair(&mut self, alloc: Global) -> Result<Option<Seen<'a>>, Refusal>
+    fn next_pair(&mut self, alloc: Global) -> Result<Option<Seen<'a>>, AllocError>
         ensures pair { IfOk result (λ next. MatchOption next
             ((to_come self.old ≡ []) × (to_come self.new ≡ []))
-            (λ pair. to_come self.old ≡ seen pair ∷ to_come self.new)) }
-        ensures err { IfErr result (λ e. e ≡ Refusal.OutOfMemory) };
+            (λ pair. to_come self.old ≡ seen pair ∷ to_come self.new)) };
 }
 
 /// Whether two rows are a pair of the join.
@@ -86,7 +85,7 @@ impl<'a> PairSource<'a> for SlicePairs<'a> {
 
     ghost to_come = { λ s. pairs_left s.join s.firsts.now s.rest.now s.seconds.now };
 
-    fn next_pair(&mut self, _alloc: Global) -> Result<Option<Seen<'a>>, Refusal> {
+    fn next_pair(&mut self, _alloc: Global) -> Result<Option<Seen<'a>>, AllocError> {
         while let Some((first, others)) = self.firsts.split_first() {
             if let Some((second, rest)) = partner(self.join, first, self.rest) {
                 self.rest = rest;
@@ -104,11 +103,10 @@ fn next_kept_pair<'a, S: PairSource<'a>>(
     alloc: Global,
     condition: &Option<Condition<usize>>,
     pairs: &mut S,
-) -> Result<Option<Seen<'a>>, Refusal>
+) -> Result<Option<Seen<'a>>, AllocError>
     ensures pair { IfOk result (λ next. MatchOption next
         ((filter (is_kept condition.now) (S.to_come pairs.old) ≡ []) × (S.to_come pairs.new ≡ []))
         (λ pair. filter (is_kept condition.now) (S.to_come pairs.old) ≡ seen pair ∷ filter (is_kept condition.now) (S.to_come pairs.new))) }
-    ensures err { IfErr result (λ e. e ≡ Refusal.OutOfMemory) }
 {
     while let Some(pair) = pairs.next_pair(alloc)? {
         if keeps_seen(condition, pair) {
@@ -118,9 +116,8 @@ fn next_kept_pair<'a, S: PairSource<'a>>(
     Ok(None)
 }
 
-fn copy_pair(alloc: Global, first: &Row, width: usize, second: &Row) -> Result<Row, Refusal>
+fn copy_pair(alloc: Global, first: &Row, width: usize, second: &Row) -> Result<Row, AllocError>
     ensures ok { IfOk result (λ row. row ≡ padded_row width first.now ++ second.now) }
-    ensures err { IfErr result (λ e. e ≡ Refusal.OutOfMemory) }
 {
     let mut row = Items::new(alloc);
     for ordinal in 0..width {
@@ -134,9 +131,8 @@ fn copy_pair(alloc: Global, first: &Row, width: usize, second: &Row) -> Result<R
 }
 
 /// A copy of a row or of a pair. Refuses for want of memory.
-pub fn copy_seen(alloc: Global, values: Seen) -> Result<Row, Refusal>
+pub fn copy_seen(alloc: Global, values: Seen) -> Result<Row, AllocError>
     ensures ok { IfOk result (λ row. row ≡ seen values.entry) }
-    ensures err { IfErr result (λ e. e ≡ Refusal.OutOfMemory) }
 {
     match values {
         Seen::Row(row) => copy_row(alloc, row),
@@ -160,9 +156,9 @@ impl<'a, S: PairSource<'a>> Operator for KeptPairs<'a, S> {
 
     ghost has_failed = { λ kept. kept.failed };
 
-    fn next(&mut self, alloc: Global) -> Result<Option<Row>, Refusal> {
+    fn next(&mut self, alloc: Global) -> Result<Option<Row>, AllocError> {
         if self.failed {
-            return Err(Refusal::OutOfMemory);
+            return Err(AllocError);
         }
         let next = next_kept_pair(alloc, self.condition, &mut self.pairs);
         self.failed = next.is_err();
@@ -182,9 +178,8 @@ fn shown_pairs<O: Operator>(
     keys: &[Key<usize>],
     limit: Option<sql_tree::LimitClause>,
     ordinals: Items<usize>,
-) -> Result<Items<Row>, Refusal>
+) -> Result<Items<Row>, AllocError>
     ensures ok { IfOk result (IsSortedSlice keys.now limit ordinals (O.to_come rows)) }
-    ensures err { IfErr result (λ e. e ≡ Refusal.OutOfMemory) }
 {
     if keys.is_empty() {
         let mut shown = Project::new(Limit::new(rows, limit), ordinals);
@@ -203,10 +198,9 @@ pub fn select_pairs<'a, S: PairSource<'a>>(
     alloc: Global,
     query: &'a Query,
     pairs: S,
-) -> Result<Items<Row>, Refusal>
+) -> Result<Items<Row>, AllocError>
     requires plain { is_aggregated query.now ≡ false }
     ensures ok { IfOk result (IsAnswer query.now (S.to_come pairs)) }
-    ensures err { IfErr result (λ e. e ≡ Refusal.OutOfMemory) }
 {
     let ordinals = shown_ordinals(alloc, query.items.as_slice())?;
     let kept = KeptPairs {

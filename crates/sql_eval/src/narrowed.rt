@@ -1,18 +1,18 @@
 //! A query that shows each of its items once, in place of one that may show some again and again: what it gives is as wide as there are
 //! different items, and each row is shown whole once it is asked for.
-ghost use Rattle.std.specs.Prelude.{◌≡◌, ℕ, ◌∷◌, ◌++◌, [], List, Some, None, IfOk, IfErr, IfSome, IfNone, OnOk, IsTrue, map, slice_get};
+ghost use Rattle.std.specs.Prelude.{◌≡◌, ℕ, ◌∷◌, ◌++◌, [], List, Some, None, IfOk, IfSome, IfNone, OnOk, IsTrue, map, slice_get};
 ghost use Rattle.sql_tree.specs.declared.Item.{Item as I};
 ghost use Rattle.sql_eval.specs.Narrowing.{item_code, distinct_items, narrowed, whole_items, whole_ordinals, ShowsAt};
 ghost use Rattle.sql_eval.specs.inner.Narrowings.{has_item, are_apart, IsSeen};
 
 use crate::groups::copy_item;
 use sql_tree::Item;
-use std::alloc::Global;
+use std::alloc::{AllocError, Global};
 use std::collections::BTreeMap;
 use std::marker::Model;
 use std::mem::replace;
 use vschema::Query;
-use vt_value::{Items, Refusal};
+use vt_value::Items;
 
 /// A list of at most so many items is compared item by item.
 const FEW: usize = 8;
@@ -62,9 +62,8 @@ struct Seen {
 
 impl Seen {
     /// Puts an item after those so far. Refuses only for want of memory.
-    fn add(&mut self, item: &Item<usize>) -> Result<(), Refusal>
+    fn add(&mut self, item: &Item<usize>) -> Result<(), AllocError>
         ensures ok { OnOk result ((before : List (I ℕ)) → IsSeen before self.old → IsSeen (before ++ item.now ∷ []) self.new) }
-        ensures err { IfErr result (λ e. e ≡ Refusal.OutOfMemory) }
     {
         let code = item_code(item);
         match self.by_code.get(&code).copied() {
@@ -80,9 +79,8 @@ impl Seen {
     }
 
     /// Those of a list. Refuses only for want of memory.
-    fn of(alloc: Global, items: &[Item<usize>]) -> Result<Seen, Refusal>
+    fn of(alloc: Global, items: &[Item<usize>]) -> Result<Seen, AllocError>
         ensures ok { IfOk result (IsSeen items.now) }
-        ensures err { IfErr result (λ e. e ≡ Refusal.OutOfMemory) }
     {
         let mut seen = Seen {
             items: Items::new(alloc),
@@ -116,11 +114,10 @@ fn are_few_apart(items: &[Item<usize>]) -> bool
 fn different(
     alloc: Global,
     items: &[Item<usize>],
-) -> Result<Option<(Items<Item<usize>>, Items<usize>)>, Refusal>
+) -> Result<Option<(Items<Item<usize>>, Items<usize>)>, AllocError>
     ensures all { IfOk result (λ r. IfNone r (distinct_items items.now ≡ items.now)) }
     ensures items { IfOk result (λ r. IfSome r (λ s. s.0 ≡ distinct_items items.now)) }
     ensures ordinals { IfOk result (λ r. IfSome r (λ s. map (slice_get s.0) s.1 ≡ map Some items.now)) }
-    ensures err { IfErr result (λ e. e ≡ Refusal.OutOfMemory) }
 {
     let seen = Seen::of(alloc, items)?;
     if seen.items.len() == items.len() {
@@ -135,11 +132,10 @@ fn different(
 }
 
 /// Has a query show each of its items once, and gives what it stands for, if it showed some again. Refuses only for want of memory.
-pub fn narrow(alloc: Global, query: &mut Query) -> Result<Option<Whole>, Refusal>
+pub fn narrow(alloc: Global, query: &mut Query) -> Result<Option<Whole>, AllocError>
     ensures query { OnOk result (query.new ≡ narrowed query.old) }
     ensures items { IfOk result (λ whole. whole_items whole query.new.items ≡ query.old.items) }
     ensures shows { IfOk result (λ whole. ShowsAt query.old (whole_ordinals whole)) }
-    ensures err { IfErr result (λ e. e ≡ Refusal.OutOfMemory) }
 {
     if are_few_apart(query.items.as_slice()) {
         return Ok(None);
@@ -179,9 +175,8 @@ impl Narrowed {
     // ordinals that are given are what the whole query may answer
     // With: narrow, Narrowed::query, Narrowed::ordinals, Narrowed::split, Narrowed::shown
     /// The query that shows each item of this one once. Refuses only for want of memory.
-    pub fn of(alloc: Global, query: Query) -> Result<Narrowed, Refusal>
+    pub fn of(alloc: Global, query: Query) -> Result<Narrowed, AllocError>
         ensures ok { IfOk result (λ n. n ≡ query) }
-        ensures err { IfErr result (λ e. e ≡ Refusal.OutOfMemory) }
     {
         let mut query = query;
         let whole = narrow(alloc, &mut query)?;
@@ -197,9 +192,8 @@ impl Narrowed {
 
     /// Where the items of the whole query are among those of the one that is run; `None` if they are the same. Refuses only for want of
     /// memory.
-    pub fn ordinals(&self, alloc: Global) -> Result<Option<Items<usize>>, Refusal>
+    pub fn ordinals(&self, alloc: Global) -> Result<Option<Items<usize>>, AllocError>
         ensures ok { IfOk result (ShowsAt self.now) }
-        ensures err { IfErr result (λ e. e ≡ Refusal.OutOfMemory) }
     {
         match &self.whole {
             None => Ok(None),

@@ -1,5 +1,5 @@
 //! Rows in an order that sort keys allow.
-ghost use Rattle.std.specs.Prelude.{◌≡◌, IfOk, IfErr, OnOk, IsPermutation, IsSorted, map, filter};
+ghost use Rattle.std.specs.Prelude.{◌≡◌, IfOk, OnOk, IsPermutation, IsSorted, map, filter};
 ghost use Rattle.operators.specs.Orders.{row_cmp};
 ghost use Rattle.sql_eval.specs.Conditions.{is_kept};
 ghost use Rattle.sql_eval.specs.inner.Fronts.{IsFront};
@@ -9,9 +9,9 @@ use crate::fronts::first_ordered;
 use crate::source::{RowSource, next_passing};
 use operators::compare_rows;
 use sql_tree::Key;
-use std::alloc::Global;
+use std::alloc::{AllocError, Global};
 use std::marker::Model;
-use vt_value::{Refusal, Row};
+use vt_value::Row;
 
 /// Rows that are still to come, of a list that borrows them. Contracts see the rows.
 #[derive(Drop)]
@@ -47,9 +47,8 @@ fn all<'a, S: RowSource<'a>>(
     alloc: Global,
     condition: &Filter,
     rows: S,
-) -> Result<Vec<&'a Row>, Refusal>
+) -> Result<Vec<&'a Row>, AllocError>
     ensures ok { IfOk result (λ list. map (λ row. row.now) list.items ≡ filter (is_kept condition.now) (S.to_come rows)) }
-    ensures err { IfErr result (λ e. e ≡ Refusal.OutOfMemory) }
 {
     let mut rows = rows;
     let mut list = Vec::new(alloc);
@@ -59,10 +58,9 @@ fn all<'a, S: RowSource<'a>>(
     Ok(list)
 }
 
-fn sort(rows: &mut Vec<&Row>, keys: &[Key<usize>]) -> Result<(), Refusal>
+fn sort(rows: &mut Vec<&Row>, keys: &[Key<usize>]) -> Result<(), AllocError>
     ensures permutation { IsPermutation rows.old.items rows.new.items }
     ensures sorted { OnOk result (IsSorted (row_cmp keys.now) (map (λ row. row.now) rows.new.items)) }
-    ensures err { IfErr result (λ e. e ≡ Refusal.OutOfMemory) }
 {
     rows.sort_by(|a, b| compare_rows(keys, a, b))?;
     Ok(())
@@ -74,10 +72,9 @@ pub fn ordered<'a, S: RowSource<'a>>(
     condition: &Filter,
     rows: S,
     keys: &[Key<usize>],
-) -> Result<LentRows<'a>, Refusal>
+) -> Result<LentRows<'a>, AllocError>
     ensures permutation { IfOk result (IsPermutation (filter (is_kept condition.now) (S.to_come rows))) }
     ensures sorted { IfOk result (IsSorted (row_cmp keys.now)) }
-    ensures err { IfErr result (λ e. e ≡ Refusal.OutOfMemory) }
 {
     let mut list = all(alloc, condition, rows)?;
     match sort(&mut list, keys) {
@@ -96,9 +93,8 @@ pub fn ordered_front<'a, S: RowSource<'a>>(
     rows: S,
     keys: &[Key<usize>],
     most: usize,
-) -> Result<LentRows<'a>, Refusal>
+) -> Result<LentRows<'a>, AllocError>
     ensures ok { IfOk result (IsFront (row_cmp keys.now) most (filter (is_kept condition.now) (S.to_come rows))) }
-    ensures err { IfErr result (λ e. e ≡ Refusal.OutOfMemory) }
 {
     let rows = first_ordered(alloc, condition, rows, keys, most)?;
     Ok(LentRows { rows, next: 0 })

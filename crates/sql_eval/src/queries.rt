@@ -1,6 +1,6 @@
 //! What a query gives over the rows of one table. Groups, order and LIMIT each have a way of their own, so that no more rows are copied than are
 //! shown.
-ghost use Rattle.std.specs.Prelude.{◌≡◌, ◌≤◌, ◌^◌, ◌∷◌, [], IsTrue, length, pos, IfOk, IfErr, IfSome, map, filter, true};
+ghost use Rattle.std.specs.Prelude.{◌≡◌, ◌≤◌, ◌^◌, ◌∷◌, [], IsTrue, length, pos, IfOk, IfSome, map, filter, true};
 ghost use Rattle.std.specs.List.{list_all};
 ghost use Rattle.vschema.specs.Checks.{is_aggregated};
 ghost use Rattle.operators.specs.Slices.{columns_of};
@@ -17,14 +17,13 @@ use crate::ordered::{ordered, ordered_front};
 use crate::source::{RowSource, SliceRows, kept_count, shown};
 use operators::{Limit, Project, Rows, collect, project_row, sort_rows};
 use sql_tree::{Condition, Item, Key};
-use std::alloc::Global;
+use std::alloc::{AllocError, Global};
 use vschema::Query;
-use vt_value::{Items, Refusal, Row, Value};
+use vt_value::{Items, Row, Value};
 
 /// The columns that items show, by their ordinals, 0 for an aggregate.
-pub fn shown_ordinals(alloc: Global, items: &[Item<usize>]) -> Result<Items<usize>, Refusal>
+pub fn shown_ordinals(alloc: Global, items: &[Item<usize>]) -> Result<Items<usize>, AllocError>
     ensures ok { IfOk result (λ ordinals. ordinals ≡ map shown_ordinal items.now) }
-    ensures err { IfErr result (λ e. e ≡ Refusal.OutOfMemory) }
 {
     let mut ordinals = Items::new(alloc);
     for item in items {
@@ -34,9 +33,8 @@ pub fn shown_ordinals(alloc: Global, items: &[Item<usize>]) -> Result<Items<usiz
 }
 
 /// The rows by the columns at these ordinals, each copied.
-fn project_rows(alloc: Global, rows: &[Row], ordinals: &[usize]) -> Result<Items<Row>, Refusal>
+fn project_rows(alloc: Global, rows: &[Row], ordinals: &[usize]) -> Result<Items<Row>, AllocError>
     ensures ok { IfOk result (λ list. list ≡ map (columns_of ordinals.now) rows.now) }
-    ensures err { IfErr result (λ e. e ≡ Refusal.OutOfMemory) }
 {
     let mut list = Items::new(alloc);
     for row in rows {
@@ -53,9 +51,8 @@ pub fn show(
     keys: &[Key<usize>],
     limit: Option<sql_tree::LimitClause>,
     ordinals: Items<usize>,
-) -> Result<Items<Row>, Refusal>
+) -> Result<Items<Row>, AllocError>
     ensures ok { IfOk result (IsSortedSlice keys.now limit ordinals rows) }
-    ensures err { IfErr result (λ e. e ≡ Refusal.OutOfMemory) }
 {
     let sorted = sort_rows(alloc, rows, keys)?;
     // of many rows each goes once it is copied
@@ -89,10 +86,9 @@ fn show_front<'a, S: RowSource<'a>>(
     condition: &Filter,
     rows: S,
     most: usize,
-) -> Result<Items<Row>, Refusal>
+) -> Result<Items<Row>, AllocError>
     requires { IsWithin most query.now.limit }
     ensures ok { IfOk result (IsSortedSlice query.now.order_by query.now.limit (map shown_ordinal query.now.items) (filter (is_kept condition.now) (S.to_come rows))) }
-    ensures err { IfErr result (λ e. e ≡ Refusal.OutOfMemory) }
 {
     let rows = ordered_front(alloc, condition, rows, query.order_by.as_slice(), most)?;
     let all = Filter::plain(&None);
@@ -105,9 +101,8 @@ fn show_ordered<'a, S: RowSource<'a>>(
     query: &Query,
     condition: &Filter,
     rows: S,
-) -> Result<Items<Row>, Refusal>
+) -> Result<Items<Row>, AllocError>
     ensures ok { IfOk result (IsSortedSlice query.now.order_by query.now.limit (map shown_ordinal query.now.items) (filter (is_kept condition.now) (S.to_come rows))) }
-    ensures err { IfErr result (λ e. e ≡ Refusal.OutOfMemory) }
 {
     let rows = ordered(alloc, condition, rows, query.order_by.as_slice())?;
     let all = Filter::plain(&None);
@@ -119,9 +114,8 @@ fn select_rows<'a, S: RowSource<'a>>(
     alloc: Global,
     query: &'a Query,
     rows: S,
-) -> Result<Items<Row>, Refusal>
+) -> Result<Items<Row>, AllocError>
     ensures ok { IfOk result (IsSortedSlice query.now.order_by query.now.limit (map shown_ordinal query.now.items) (filter (is_kept query.now.filter) (S.to_come rows))) }
-    ensures err { IfErr result (λ e. e ≡ Refusal.OutOfMemory) }
 {
     let filter = Filter::of(alloc, &query.filter)?;
     if query.order_by.as_slice().is_empty() {
@@ -165,10 +159,9 @@ fn counted<'a, S: RowSource<'a>>(
     condition: &Option<Condition<usize>>,
     rows: S,
     aggregates: &[Item<usize>],
-) -> Result<Items<Row>, Refusal>
+) -> Result<Items<Row>, AllocError>
     requires { length (filter (is_kept condition.now) (S.to_come rows)) ≤ 2 ^ 60 }
     ensures ok { IfOk result (λ list. list ≡ counted_row aggregates.now (length (filter (is_kept condition.now) (S.to_come rows))) ∷ []) }
-    ensures err { IfErr result (λ e. e ≡ Refusal.OutOfMemory) }
 {
     let filter = Filter::of(alloc, condition)?;
     let count = kept_count(&filter, rows);
@@ -186,10 +179,9 @@ fn grouped<'a, S: RowSource<'a>>(
     alloc: Global,
     query: &'a Query,
     rows: S,
-) -> Result<Items<Row>, Refusal>
+) -> Result<Items<Row>, AllocError>
     requires { CanBeSummed (filter (is_kept query.now.filter) (S.to_come rows)) }
     ensures ok { IfOk result (λ list. list ≡ grouped_rows query.now (filter (is_kept query.now.filter) (S.to_come rows))) }
-    ensures err { IfErr result (λ e. e ≡ Refusal.OutOfMemory) }
 {
     let grouping = Grouping::of(alloc, query)?;
     let aggregates = grouping.aggregates.as_slice();
@@ -204,10 +196,9 @@ fn select_groups<'a, S: RowSource<'a>>(
     alloc: Global,
     query: &'a Query,
     rows: S,
-) -> Result<Items<Row>, Refusal>
+) -> Result<Items<Row>, AllocError>
     requires { CanBeSummed (filter (is_kept query.now.filter) (S.to_come rows)) }
     ensures ok { IfOk result (IsSortedSlice (group_order query.now) query.now.limit (group_columns query.now) (grouped_rows query.now (filter (is_kept query.now.filter) (S.to_come rows)))) }
-    ensures err { IfErr result (λ e. e ≡ Refusal.OutOfMemory) }
 {
     let groups = grouped(alloc, query, rows)?;
     let keys = group_order(alloc, query)?;
@@ -225,10 +216,9 @@ pub fn select_from<'a, S: RowSource<'a>>(
     alloc: Global,
     query: &'a Query,
     rows: S,
-) -> Result<Items<Row>, Refusal>
+) -> Result<Items<Row>, AllocError>
     requires summed { is_aggregated query.now ≡ true → CanBeSummed (filter (is_kept query.now.filter) (S.to_come rows)) }
     ensures ok { IfOk result (IsAnswer query.now (S.to_come rows)) }
-    ensures err { IfErr result (λ e. e ≡ Refusal.OutOfMemory) }
 {
     if query.is_aggregated() {
         select_groups(alloc, query, rows)
@@ -238,10 +228,9 @@ pub fn select_from<'a, S: RowSource<'a>>(
 }
 
 /// What a query gives over the rows of its table, as `select_from`. Refuses only for want of memory.
-pub fn select_local(alloc: Global, query: &Query, rows: &[Row]) -> Result<Items<Row>, Refusal>
+pub fn select_local(alloc: Global, query: &Query, rows: &[Row]) -> Result<Items<Row>, AllocError>
     requires summed { is_aggregated query.now ≡ true → CanBeSummed rows.now }
     ensures ok { IfOk result (IsAnswer query.now rows.now) }
-    ensures err { IfErr result (λ e. e ≡ Refusal.OutOfMemory) }
 {
     select_from(alloc, query, SliceRows::new(rows))
 }

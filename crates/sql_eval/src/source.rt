@@ -1,5 +1,5 @@
 //! Lends rows one at a time, so that a query copies only what it shows, and LIMIT ends a walk early.
-ghost use Rattle.std.specs.Prelude.{◌≡◌, List, [], ◌∷◌, MatchOption, IfOk, IfErr, OnOk, ◌≤◌, ◌^◌, length, filter, map, take, drop};
+ghost use Rattle.std.specs.Prelude.{◌≡◌, List, [], ◌∷◌, MatchOption, IfOk, OnOk, ◌≤◌, ◌^◌, length, filter, map, take, drop};
 ghost use Rattle.vt_value.specs.declared.value.Value.{Value};
 ghost use Rattle.operators.specs.Slices.{columns_of, sliced};
 ghost use Rattle.sql_eval.specs.Conditions.{is_kept};
@@ -9,9 +9,9 @@ use crate::conditions::keeps;
 use crate::filters::Filter;
 use crate::shown_rows::shown_row;
 use sql_tree::{Condition, Item, LimitClause};
-use std::alloc::Global;
+use std::alloc::{AllocError, Global};
 use std::marker::Model;
-use vt_value::{Items, Refusal, Row, copy_row};
+use vt_value::{Items, Row, copy_row};
 
 /// Lends rows, one at a time.
 pub trait RowSource<'a>: Drop {
@@ -111,9 +111,8 @@ fn all_passing<'a, S: RowSource<'a>>(
     alloc: Global,
     condition: &Filter,
     rows: S,
-) -> Result<Items<Row>, Refusal>
+) -> Result<Items<Row>, AllocError>
     ensures ok { IfOk result (λ list. list ≡ filter (is_kept condition.now) (S.to_come rows)) }
-    ensures err { IfErr result (λ e. e ≡ Refusal.OutOfMemory) }
 {
     let mut rows = rows;
     let mut list = Items::new(alloc);
@@ -128,9 +127,8 @@ pub fn all_kept<'a, S: RowSource<'a>>(
     alloc: Global,
     condition: &Option<Condition<usize>>,
     rows: S,
-) -> Result<Items<Row>, Refusal>
+) -> Result<Items<Row>, AllocError>
     ensures ok { IfOk result (λ list. list ≡ filter (is_kept condition.now) (S.to_come rows)) }
-    ensures err { IfErr result (λ e. e ≡ Refusal.OutOfMemory) }
 {
     let filter = Filter::of(alloc, condition)?;
     all_passing(alloc, &filter, rows)
@@ -154,10 +152,9 @@ fn first_shown<'a, S: RowSource<'a>>(
     rows: &mut S,
     items: &[Item<usize>],
     count: u64,
-) -> Result<Items<Row>, Refusal>
+) -> Result<Items<Row>, AllocError>
     ensures ok { IfOk result (λ list. list ≡ map (columns_of (map shown_ordinal items.now)) (take count (filter (is_kept condition.now) (S.to_come rows.old)))) }
     ensures rest { OnOk result (filter (is_kept condition.now) (S.to_come rows.new) ≡ drop count (filter (is_kept condition.now) (S.to_come rows.old))) }
-    ensures err { IfErr result (λ e. e ≡ Refusal.OutOfMemory) }
 {
     let mut list = Items::new(alloc);
     for _ in 0..count {
@@ -175,9 +172,8 @@ fn all_shown<'a, S: RowSource<'a>>(
     condition: &Filter,
     rows: &mut S,
     items: &[Item<usize>],
-) -> Result<Items<Row>, Refusal>
+) -> Result<Items<Row>, AllocError>
     ensures ok { IfOk result (λ list. list ≡ map (columns_of (map shown_ordinal items.now)) (filter (is_kept condition.now) (S.to_come rows.old))) }
-    ensures err { IfErr result (λ e. e ≡ Refusal.OutOfMemory) }
 {
     let mut list = Items::new(alloc);
     while let Some(row) = next_passing(condition, rows) {
@@ -194,9 +190,8 @@ pub fn shown<'a, S: RowSource<'a>>(
     rows: S,
     limit: Option<LimitClause>,
     items: &[Item<usize>],
-) -> Result<Items<Row>, Refusal>
+) -> Result<Items<Row>, AllocError>
     ensures ok { IfOk result (λ list. list ≡ map (columns_of (map shown_ordinal items.now)) (sliced limit (filter (is_kept condition.now) (S.to_come rows)))) }
-    ensures err { IfErr result (λ e. e ≡ Refusal.OutOfMemory) }
 {
     let mut rows = rows;
     match limit {

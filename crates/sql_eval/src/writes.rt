@@ -9,13 +9,12 @@ use crate::filters::Filter;
 use crate::rows::same_row;
 use crate::source::{RowSource, SliceRows, next_passing};
 use sql_tree::{Assignment, Condition};
-use std::alloc::Global;
+use std::alloc::{AllocError, Global};
 use vschema::{RowChange, Table, Write};
 use vt_value::{Items, Refusal, Row, copy, copy_row};
 
-fn added(alloc: Global, ordinal: usize, new: &[Row]) -> Result<Items<RowChange>, Refusal>
+fn added(alloc: Global, ordinal: usize, new: &[Row]) -> Result<Items<RowChange>, AllocError>
     ensures ok { IfOk result (λ changes. changes ≡ map (Added ordinal) new.now) }
-    ensures err { IfErr result (λ e. e ≡ Refusal.OutOfMemory) }
 {
     let mut changes = Items::from_vec(Vec::with_capacity(alloc, new.len())?);
     for row in new {
@@ -24,9 +23,8 @@ fn added(alloc: Global, ordinal: usize, new: &[Row]) -> Result<Items<RowChange>,
     Ok(changes)
 }
 
-fn assigned(alloc: Global, assignments: &[Assignment<usize>], row: &Row) -> Result<Row, Refusal>
+fn assigned(alloc: Global, assignments: &[Assignment<usize>], row: &Row) -> Result<Row, AllocError>
     ensures ok { IfOk result (λ r. r ≡ assigned assignments.now row.now) }
-    ensures err { IfErr result (λ e. e ≡ Refusal.OutOfMemory) }
 {
     let mut new = copy_row(alloc, row)?;
     for assignment in assignments {
@@ -43,9 +41,8 @@ fn row_update(
     assignments: &[Assignment<usize>],
     filter: &Filter,
     row: &Row,
-) -> Result<Option<RowChange>, Refusal>
+) -> Result<Option<RowChange>, AllocError>
     ensures ok { IfOk result (λ change. option_to_list change ≡ row_updates ordinal assignments.now filter.now row.now) }
-    ensures err { IfErr result (λ e. e ≡ Refusal.OutOfMemory) }
 {
     if !filter.keeps(row) {
         return Ok(None);
@@ -64,9 +61,8 @@ fn updates<'a, S: RowSource<'a>>(
     assignments: &[Assignment<usize>],
     condition: &Filter,
     rows: S,
-) -> Result<Items<RowChange>, Refusal>
+) -> Result<Items<RowChange>, AllocError>
     ensures ok { IfOk result (λ changes. changes ≡ flat_map (row_updates ordinal assignments.now condition.now) (S.to_come rows)) }
-    ensures err { IfErr result (λ e. e ≡ Refusal.OutOfMemory) }
 {
     let mut rows = rows;
     let mut changes = Items::new(alloc);
@@ -86,9 +82,8 @@ pub fn updates_from<'a, S: RowSource<'a>>(
     assignments: &[Assignment<usize>],
     condition: &Option<Condition<usize>>,
     rows: S,
-) -> Result<Items<RowChange>, Refusal>
+) -> Result<Items<RowChange>, AllocError>
     ensures ok { IfOk result (λ changes. changes ≡ flat_map (row_updates ordinal assignments.now condition.now) (S.to_come rows)) }
-    ensures err { IfErr result (λ e. e ≡ Refusal.OutOfMemory) }
 {
     let filter = Filter::of(alloc, condition)?;
     updates(alloc, ordinal, assignments, &filter, rows)
@@ -100,9 +95,8 @@ fn removals<'a, S: RowSource<'a>>(
     ordinal: usize,
     condition: &Filter,
     rows: S,
-) -> Result<Items<RowChange>, Refusal>
+) -> Result<Items<RowChange>, AllocError>
     ensures ok { IfOk result (λ changes. changes ≡ map (Removed ordinal) (filter (is_kept condition.now) (S.to_come rows))) }
-    ensures err { IfErr result (λ e. e ≡ Refusal.OutOfMemory) }
 {
     let mut rows = rows;
     let mut changes = Items::new(alloc);
@@ -119,9 +113,8 @@ pub fn removals_from<'a, S: RowSource<'a>>(
     ordinal: usize,
     condition: &Option<Condition<usize>>,
     rows: S,
-) -> Result<Items<RowChange>, Refusal>
+) -> Result<Items<RowChange>, AllocError>
     ensures ok { IfOk result (λ changes. changes ≡ map (Removed ordinal) (filter (is_kept condition.now) (S.to_come rows))) }
-    ensures err { IfErr result (λ e. e ≡ Refusal.OutOfMemory) }
 {
     let filter = Filter::of(alloc, condition)?;
     removals(alloc, ordinal, &filter, rows)
@@ -147,14 +140,14 @@ pub fn change_local(
             if has {
                 return Err(Refusal::DuplicateKey);
             }
-            added(alloc, *ordinal, new.as_slice())
+            Ok(added(alloc, *ordinal, new.as_slice())?)
         }
         Write::Update(ordinal, assignments, condition) => {
             let rows = SliceRows::new(rows);
-            updates_from(alloc, *ordinal, assignments.as_slice(), condition, rows)
+            Ok(updates_from(alloc, *ordinal, assignments.as_slice(), condition, rows)?)
         }
         Write::Delete(ordinal, condition) => {
-            removals_from(alloc, *ordinal, condition, SliceRows::new(rows))
+            Ok(removals_from(alloc, *ordinal, condition, SliceRows::new(rows))?)
         }
     }
 }

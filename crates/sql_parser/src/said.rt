@@ -1,13 +1,13 @@
 //! What tokens say.
-ghost use Rattle.std.specs.Prelude.{◌≡◌, ◌≤◌, ◌+◌, ◌-◌, ◌*◌, length, slice_range, IfOk, IfErr};
+ghost use Rattle.std.specs.Prelude.{◌≡◌, ◌≤◌, ◌+◌, ◌-◌, ◌*◌, length, slice_range, IfOk};
 ghost use Rattle.std.specs.Option.{option_copied};
 ghost use Rattle.sql_lexer.specs.Lexemes.{digits_onto, inner, unescaped};
 ghost use Rattle.sql_parser.specs.inner.Reading.{said, identifier_of, natural_of, fitting};
 
 use crate::unescaping::unescaped;
 use sql_lexer::{Token, TokenKind};
-use std::alloc::Global;
-use vt_value::{Items, Refusal};
+use std::alloc::{AllocError, Global};
+use vt_value::Items;
 
 /// How many digits are read without a look at whether 64 bits hold their value.
 const FEW_DIGITS: usize = 16;
@@ -96,9 +96,8 @@ pub fn number(text: &[u8], token: &Token) -> Option<u64>
 }
 
 /// What a text token says.
-pub fn string(alloc: Global, text: &[u8], token: &Token) -> Result<Items<u8>, Refusal>
+pub fn string(alloc: Global, text: &[u8], token: &Token) -> Result<Items<u8>, AllocError>
     ensures ok { IfOk result (λ said. said ≡ unescaped (inner (slice_range text.now token.now.start token.now.end))) }
-    ensures err { IfErr result (λ e. e ≡ Refusal.OutOfMemory) }
 {
     unescaped(alloc, inner(bytes_of(text, token)))
 }

@@ -1,14 +1,13 @@
 //! What the body of a text token says.
-ghost use Rattle.std.specs.Prelude.{◌≡◌, ◌++◌, ◌<◌, [], length, IfOk, IfErr, OnOk};
+ghost use Rattle.std.specs.Prelude.{◌≡◌, ◌++◌, ◌<◌, [], length, IfOk, OnOk};
 ghost use Rattle.sql_lexer.specs.Lexemes.{escaped, unescaped};
 
-use std::alloc::Global;
-use vt_value::{Items, Refusal};
+use std::alloc::{AllocError, Global};
+use vt_value::Items;
 
 /// Puts what a backslash and this byte say.
-fn push_escaped(said: &mut Vec<u8>, byte: u8) -> Result<(), Refusal>
+fn push_escaped(said: &mut Vec<u8>, byte: u8) -> Result<(), AllocError>
     ensures ok { OnOk result (said.new.items ≡ said.old.items ++ escaped byte) }
-    ensures err { IfErr result (λ e. e ≡ Refusal.OutOfMemory) }
 {
     match byte {
         b'0' => said.push(0)?,
@@ -27,10 +26,9 @@ fn push_escaped(said: &mut Vec<u8>, byte: u8) -> Result<(), Refusal>
 }
 
 /// Puts what the first part of a body says, and gives what comes after it.
-fn push_part<'s>(said: &mut Vec<u8>, body: &'s [u8]) -> Result<&'s [u8], Refusal>
+fn push_part<'s>(said: &mut Vec<u8>, body: &'s [u8]) -> Result<&'s [u8], AllocError>
     ensures same { IfOk result (λ rest. said.new.items ++ unescaped rest.now ≡ said.old.items ++ unescaped body.now) }
     ensures shorter { IfOk result (λ rest. 0 < length body.now → length rest.now < length body.now) }
-    ensures err { IfErr result (λ e. e ≡ Refusal.OutOfMemory) }
 {
     match body {
         [] => Ok(body),
@@ -50,9 +48,8 @@ fn push_part<'s>(said: &mut Vec<u8>, body: &'s [u8]) -> Result<&'s [u8], Refusal
 }
 
 /// What the bytes between a text's quotes say: a pair of quotes is one, and a backslash escapes the byte after it.
-pub fn unescaped(alloc: Global, body: &[u8]) -> Result<Items<u8>, Refusal>
+pub fn unescaped(alloc: Global, body: &[u8]) -> Result<Items<u8>, AllocError>
     ensures ok { IfOk result (λ said. said ≡ unescaped body.now) }
-    ensures err { IfErr result (λ e. e ≡ Refusal.OutOfMemory) }
 {
     let mut said = Vec::new(alloc);
     let mut rest = body;

@@ -1,5 +1,5 @@
 //! Conditions as they are printed, with no more parentheses than their trees need.
-ghost use Rattle.std.specs.Prelude.{◌≡◌, ◌++◌, List, codes, flat_map, map, IfOk, IfErr, OnOk};
+ghost use Rattle.std.specs.Prelude.{◌≡◌, ◌++◌, List, codes, flat_map, map, OnOk};
 ghost use Rattle.sql_lexer.specs.Lexemes.{operator_text};
 ghost use Rattle.sql_tree.specs.Printing.{operand_text, joined, condition_printed, condition_text};
 ghost use Rattle.sql_tree.specs.Printing.{inside_and, inside_or};
@@ -7,18 +7,18 @@ ghost use Rattle.sql_tree.specs.Printing.{inside_and, inside_or};
 use crate::lists::put_bracketed;
 use crate::literals::{put, put_operand, put_operator};
 use crate::{ColumnName, Condition, Operand};
-use vt_value::{Comparison, Refusal};
+use std::alloc::AllocError;
+use vt_value::Comparison;
 
 fn put_comparison(
     out: &mut Vec<u8>,
     operator: Comparison,
     left: &Operand<ColumnName>,
     right: &Operand<ColumnName>,
-) -> Result<(), Refusal>
+) -> Result<(), AllocError>
     ensures ok { OnOk result (out.new.items
         ≡ out.old.items
         ++ (operand_text left.now ++ codes " " ++ operator_text operator ++ codes " " ++ operand_text right.now)) }
-    ensures err { IfErr result (λ e. e ≡ Refusal.OutOfMemory) }
 {
     put_operand(out, left)?;
     put(out, b" ")?;
@@ -29,9 +29,8 @@ fn put_comparison(
 
 /// Puts a condition.
 #[cycle(conditions)]
-pub fn put_condition(out: &mut Vec<u8>, condition: &Condition<ColumnName>) -> Result<(), Refusal>
+pub fn put_condition(out: &mut Vec<u8>, condition: &Condition<ColumnName>) -> Result<(), AllocError>
     ensures ok { OnOk result (out.new.items ≡ out.old.items ++ condition_text condition.now) }
-    ensures err { IfErr result (λ e. e ≡ Refusal.OutOfMemory) }
 {
     match condition {
         Condition::Compare(operator, left, right) => put_comparison(out, *operator, left, right),
@@ -55,9 +54,8 @@ pub fn put_condition(out: &mut Vec<u8>, condition: &Condition<ColumnName>) -> Re
 
 /// A member of an AND, or what is under NOT: an AND and an OR are in parentheses.
 #[cycle(conditions)]
-fn put_inside_and(out: &mut Vec<u8>, condition: &Condition<ColumnName>) -> Result<(), Refusal>
+fn put_inside_and(out: &mut Vec<u8>, condition: &Condition<ColumnName>) -> Result<(), AllocError>
     ensures ok { OnOk result (out.new.items ≡ out.old.items ++ inside_and (condition_printed condition.now)) }
-    ensures err { IfErr result (λ e. e ≡ Refusal.OutOfMemory) }
 {
     match condition {
         Condition::And(members) => {
@@ -76,9 +74,8 @@ fn put_inside_and(out: &mut Vec<u8>, condition: &Condition<ColumnName>) -> Resul
 
 /// A member of an OR: an OR is in parentheses.
 #[cycle(conditions)]
-fn put_inside_or(out: &mut Vec<u8>, condition: &Condition<ColumnName>) -> Result<(), Refusal>
+fn put_inside_or(out: &mut Vec<u8>, condition: &Condition<ColumnName>) -> Result<(), AllocError>
     ensures ok { OnOk result (out.new.items ≡ out.old.items ++ inside_or (condition_printed condition.now)) }
-    ensures err { IfErr result (λ e. e ≡ Refusal.OutOfMemory) }
 {
     match condition {
         Condition::Or(members) => {
@@ -91,10 +88,9 @@ fn put_inside_or(out: &mut Vec<u8>, condition: &Condition<ColumnName>) -> Result
 }
 
 #[cycle(conditions)]
-fn put_and(out: &mut Vec<u8>, members: &[Condition<ColumnName>]) -> Result<(), Refusal>
+fn put_and(out: &mut Vec<u8>, members: &[Condition<ColumnName>]) -> Result<(), AllocError>
     ensures ok { OnOk result (out.new.items
         ≡ out.old.items ++ joined (codes " AND ") (map inside_and (map condition_printed members.now))) }
-    ensures err { IfErr result (λ e. e ≡ Refusal.OutOfMemory) }
 {
     for (i, member) in members.iter().enumerate() {
         if i > 0 {
@@ -106,10 +102,9 @@ fn put_and(out: &mut Vec<u8>, members: &[Condition<ColumnName>]) -> Result<(), R
 }
 
 #[cycle(conditions)]
-fn put_or(out: &mut Vec<u8>, members: &[Condition<ColumnName>]) -> Result<(), Refusal>
+fn put_or(out: &mut Vec<u8>, members: &[Condition<ColumnName>]) -> Result<(), AllocError>
     ensures ok { OnOk result (out.new.items
         ≡ out.old.items ++ joined (codes " OR ") (map inside_or (map condition_printed members.now))) }
-    ensures err { IfErr result (λ e. e ≡ Refusal.OutOfMemory) }
 {
     for (i, member) in members.iter().enumerate() {
         if i > 0 {

@@ -1,25 +1,24 @@
 //! Lists of printed parts.
-ghost use Rattle.std.specs.Prelude.{◌≡◌, ◌++◌, ℕ, List, codes, flat_map, map, IfOk, IfErr, OnOk};
+ghost use Rattle.std.specs.Prelude.{◌≡◌, ◌++◌, ℕ, List, codes, flat_map, map, OnOk};
 ghost use Rattle.sql_tree.specs.Printing.{following, commas, bracketed, clause_text, column_text};
 
 use crate::literals::{put, put_column, put_name, put_value};
 use crate::{Assignment, ColumnName, Item, Key, Name};
-use vt_value::{Items, Refusal, Value};
+use std::alloc::AllocError;
+use vt_value::{Items, Value};
 
 /// A part of a statement that has one printed form.
 pub trait Print {
     ghost text: { Self → List ℕ };
 
     /// Puts the printed form.
-    fn put(&self, out: &mut Vec<u8>) -> Result<(), Refusal>
-        ensures ok { OnOk result (out.new.items ≡ out.old.items ++ text self.now) }
-        ensures err { IfErr result (λ e. e ≡ Refusal.OutOfMemory) };
+    fn put(&self, out: &mut Vec<u8>) -> Result<(), AllocError>
+        ensures ok { OnOk result (out.new.items ≡ out.old.items ++ text self.now) };
 }
 
 /// Puts each part with a comma before it.
-fn put_following<T: Print>(out: &mut Vec<u8>, items: &[T]) -> Result<(), Refusal>
+fn put_following<T: Print>(out: &mut Vec<u8>, items: &[T]) -> Result<(), AllocError>
     ensures ok { OnOk result (out.new.items ≡ out.old.items ++ following (codes ", ") (map T.text items.now)) }
-    ensures err { IfErr result (λ e. e ≡ Refusal.OutOfMemory) }
 {
     for item in items {
         put(out, b", ")?;
@@ -29,9 +28,8 @@ fn put_following<T: Print>(out: &mut Vec<u8>, items: &[T]) -> Result<(), Refusal
 }
 
 /// Puts the parts with commas between them.
-pub fn put_commas<T: Print>(out: &mut Vec<u8>, items: &[T]) -> Result<(), Refusal>
+pub fn put_commas<T: Print>(out: &mut Vec<u8>, items: &[T]) -> Result<(), AllocError>
     ensures ok { OnOk result (out.new.items ≡ out.old.items ++ commas (map T.text items.now)) }
-    ensures err { IfErr result (λ e. e ≡ Refusal.OutOfMemory) }
 {
     match items {
         [] => Ok(()),
@@ -43,9 +41,8 @@ pub fn put_commas<T: Print>(out: &mut Vec<u8>, items: &[T]) -> Result<(), Refusa
 }
 
 /// Puts the parts in parentheses.
-pub fn put_bracketed<T: Print>(out: &mut Vec<u8>, items: &[T]) -> Result<(), Refusal>
+pub fn put_bracketed<T: Print>(out: &mut Vec<u8>, items: &[T]) -> Result<(), AllocError>
     ensures ok { OnOk result (out.new.items ≡ out.old.items ++ bracketed (commas (map T.text items.now))) }
-    ensures err { IfErr result (λ e. e ≡ Refusal.OutOfMemory) }
 {
     put(out, b"(")?;
     put_commas(out, items)?;
@@ -53,9 +50,8 @@ pub fn put_bracketed<T: Print>(out: &mut Vec<u8>, items: &[T]) -> Result<(), Ref
 }
 
 /// Puts a clause, which is left out if its list is empty.
-pub fn put_clause<T: Print>(out: &mut Vec<u8>, words: &[u8], items: &[T]) -> Result<(), Refusal>
+pub fn put_clause<T: Print>(out: &mut Vec<u8>, words: &[u8], items: &[T]) -> Result<(), AllocError>
     ensures ok { OnOk result (out.new.items ≡ out.old.items ++ clause_text words.now (map T.text items.now)) }
-    ensures err { IfErr result (λ e. e ≡ Refusal.OutOfMemory) }
 {
     match items {
         [] => Ok(()),
@@ -71,7 +67,7 @@ impl Print for Name {
 
     ghost text = { name_text };
 
-    fn put(&self, out: &mut Vec<u8>) -> Result<(), Refusal> {
+    fn put(&self, out: &mut Vec<u8>) -> Result<(), AllocError> {
         put_name(out, self.as_slice())
     }
 }
@@ -81,7 +77,7 @@ impl Print for ColumnName {
 
     ghost text = { column_text };
 
-    fn put(&self, out: &mut Vec<u8>) -> Result<(), Refusal> {
+    fn put(&self, out: &mut Vec<u8>) -> Result<(), AllocError> {
         put_column(out, self)
     }
 }
@@ -91,7 +87,7 @@ impl Print for Value {
 
     ghost text = { value_text };
 
-    fn put(&self, out: &mut Vec<u8>) -> Result<(), Refusal> {
+    fn put(&self, out: &mut Vec<u8>) -> Result<(), AllocError> {
         put_value(out, self)
     }
 }
@@ -101,14 +97,13 @@ impl Print for Items<Value> {
 
     ghost text = { row_text };
 
-    fn put(&self, out: &mut Vec<u8>) -> Result<(), Refusal> {
+    fn put(&self, out: &mut Vec<u8>) -> Result<(), AllocError> {
         put_bracketed(out, self.as_slice())
     }
 }
 
-fn put_call(out: &mut Vec<u8>, column: &ColumnName) -> Result<(), Refusal>
+fn put_call(out: &mut Vec<u8>, column: &ColumnName) -> Result<(), AllocError>
     ensures ok { OnOk result (out.new.items ≡ out.old.items ++ bracketed (column_text column.now)) }
-    ensures err { IfErr result (λ e. e ≡ Refusal.OutOfMemory) }
 {
     put(out, b"(")?;
     put_column(out, column)?;
@@ -120,7 +115,7 @@ impl Print for Item<ColumnName> {
 
     ghost text = { item_text };
 
-    fn put(&self, out: &mut Vec<u8>) -> Result<(), Refusal> {
+    fn put(&self, out: &mut Vec<u8>) -> Result<(), AllocError> {
         match self {
             Item::Column(column) => put_column(out, column),
             Item::CountRows => put(out, b"COUNT(*)"),
@@ -149,7 +144,7 @@ impl Print for Key<ColumnName> {
 
     ghost text = { key_text };
 
-    fn put(&self, out: &mut Vec<u8>) -> Result<(), Refusal> {
+    fn put(&self, out: &mut Vec<u8>) -> Result<(), AllocError> {
         put_column(out, &self.column)?;
         if self.descending {
             put(out, b" DESC")?;
@@ -163,7 +158,7 @@ impl Print for Assignment<Name> {
 
     ghost text = { assignment_text };
 
-    fn put(&self, out: &mut Vec<u8>) -> Result<(), Refusal> {
+    fn put(&self, out: &mut Vec<u8>) -> Result<(), AllocError> {
         put_name(out, self.column.as_slice())?;
         put(out, b" = ")?;
         put_value(out, &self.value)

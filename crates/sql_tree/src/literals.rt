@@ -1,17 +1,17 @@
 //! Names and values as they are printed.
-ghost use Rattle.std.specs.Prelude.{◌≡◌, ◌++◌, List, codes, flat_map, map, IfOk, IfErr, OnOk};
+ghost use Rattle.std.specs.Prelude.{◌≡◌, ◌++◌, List, codes, flat_map, map, OnOk};
 ghost use Rattle.sql_lexer.specs.Lexemes.{operator_text};
 ghost use Rattle.sql_tree.specs.Printing.{name_text, quoted_byte, quoted, value_text, column_text, operand_text};
 
 use crate::{ColumnName, Operand};
 use itoa::Buffer;
 use sql_lexer::is_keyword;
-use vt_value::{Comparison, Refusal, Value};
+use std::alloc::AllocError;
+use vt_value::{Comparison, Value};
 
 /// Puts a text as it is.
-pub fn put(out: &mut Vec<u8>, text: &[u8]) -> Result<(), Refusal>
+pub fn put(out: &mut Vec<u8>, text: &[u8]) -> Result<(), AllocError>
     ensures ok { OnOk result (out.new.items ≡ out.old.items ++ text.now) }
-    ensures err { IfErr result (λ e. e ≡ Refusal.OutOfMemory) }
 {
     out.extend_from_slice(text)?;
     Ok(())
@@ -19,9 +19,8 @@ pub fn put(out: &mut Vec<u8>, text: &[u8]) -> Result<(), Refusal>
 
 /// Puts an identifier, in backquotes if it is a keyword.
 #[tactic(auto, unfolding(crate::specs::Printing::name_text))]
-pub fn put_name(out: &mut Vec<u8>, name: &[u8]) -> Result<(), Refusal>
+pub fn put_name(out: &mut Vec<u8>, name: &[u8]) -> Result<(), AllocError>
     ensures ok { OnOk result (out.new.items ≡ out.old.items ++ name_text name.now) }
-    ensures err { IfErr result (λ e. e ≡ Refusal.OutOfMemory) }
 {
     if !is_keyword(name) {
         return put(out, name);
@@ -31,9 +30,8 @@ pub fn put_name(out: &mut Vec<u8>, name: &[u8]) -> Result<(), Refusal>
     put(out, b"`")
 }
 
-fn put_escaped_byte(out: &mut Vec<u8>, byte: u8) -> Result<(), Refusal>
+fn put_escaped_byte(out: &mut Vec<u8>, byte: u8) -> Result<(), AllocError>
     ensures ok { OnOk result (out.new.items ≡ out.old.items ++ quoted_byte byte) }
-    ensures err { IfErr result (λ e. e ≡ Refusal.OutOfMemory) }
 {
     match byte {
         b'\'' => put(out, b"''"),
@@ -45,9 +43,8 @@ fn put_escaped_byte(out: &mut Vec<u8>, byte: u8) -> Result<(), Refusal>
     }
 }
 
-fn put_escaped(out: &mut Vec<u8>, bytes: &[u8]) -> Result<(), Refusal>
+fn put_escaped(out: &mut Vec<u8>, bytes: &[u8]) -> Result<(), AllocError>
     ensures ok { OnOk result (out.new.items ≡ out.old.items ++ flat_map quoted_byte bytes.now) }
-    ensures err { IfErr result (λ e. e ≡ Refusal.OutOfMemory) }
 {
     for byte in bytes {
         put_escaped_byte(out, *byte)?;
@@ -56,9 +53,8 @@ fn put_escaped(out: &mut Vec<u8>, bytes: &[u8]) -> Result<(), Refusal>
 }
 
 /// Puts a text in single quotes.
-pub fn put_quoted(out: &mut Vec<u8>, bytes: &[u8]) -> Result<(), Refusal>
+pub fn put_quoted(out: &mut Vec<u8>, bytes: &[u8]) -> Result<(), AllocError>
     ensures ok { OnOk result (out.new.items ≡ out.old.items ++ quoted bytes.now) }
-    ensures err { IfErr result (λ e. e ≡ Refusal.OutOfMemory) }
 {
     put(out, b"'")?;
     put_escaped(out, bytes)?;
@@ -66,9 +62,8 @@ pub fn put_quoted(out: &mut Vec<u8>, bytes: &[u8]) -> Result<(), Refusal>
 }
 
 /// Puts a literal, with its sign right before its number.
-pub fn put_value(out: &mut Vec<u8>, value: &Value) -> Result<(), Refusal>
+pub fn put_value(out: &mut Vec<u8>, value: &Value) -> Result<(), AllocError>
     ensures ok { OnOk result (out.new.items ≡ out.old.items ++ value_text value.now) }
-    ensures err { IfErr result (λ e. e ≡ Refusal.OutOfMemory) }
 {
     match value {
         Value::Null => put(out, b"NULL"),
@@ -81,9 +76,8 @@ pub fn put_value(out: &mut Vec<u8>, value: &Value) -> Result<(), Refusal>
 }
 
 /// Puts a column, after its table and a dot if it is qualified.
-pub fn put_column(out: &mut Vec<u8>, column: &ColumnName) -> Result<(), Refusal>
+pub fn put_column(out: &mut Vec<u8>, column: &ColumnName) -> Result<(), AllocError>
     ensures ok { OnOk result (out.new.items ≡ out.old.items ++ column_text column.now) }
-    ensures err { IfErr result (λ e. e ≡ Refusal.OutOfMemory) }
 {
     if let Some(table) = &column.table {
         put_name(out, table.as_slice())?;
@@ -92,9 +86,8 @@ pub fn put_column(out: &mut Vec<u8>, column: &ColumnName) -> Result<(), Refusal>
     put_name(out, column.name.as_slice())
 }
 
-pub fn put_operand(out: &mut Vec<u8>, operand: &Operand<ColumnName>) -> Result<(), Refusal>
+pub fn put_operand(out: &mut Vec<u8>, operand: &Operand<ColumnName>) -> Result<(), AllocError>
     ensures ok { OnOk result (out.new.items ≡ out.old.items ++ operand_text operand.now) }
-    ensures err { IfErr result (λ e. e ≡ Refusal.OutOfMemory) }
 {
     match operand {
         Operand::Column(column) => put_column(out, column),
@@ -102,9 +95,8 @@ pub fn put_operand(out: &mut Vec<u8>, operand: &Operand<ColumnName>) -> Result<(
     }
 }
 
-pub fn put_operator(out: &mut Vec<u8>, operator: Comparison) -> Result<(), Refusal>
+pub fn put_operator(out: &mut Vec<u8>, operator: Comparison) -> Result<(), AllocError>
     ensures ok { OnOk result (out.new.items ≡ out.old.items ++ operator_text operator) }
-    ensures err { IfErr result (λ e. e ≡ Refusal.OutOfMemory) }
 {
     match operator {
         Comparison::Eq => put(out, b"="),

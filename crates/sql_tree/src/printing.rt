@@ -1,5 +1,5 @@
 //! The one printed form of a statement.
-ghost use Rattle.std.specs.Prelude.{◌≡◌, ◌++◌, List, codes, flat_map, map, IfOk, IfErr, OnOk};
+ghost use Rattle.std.specs.Prelude.{◌≡◌, ◌++◌, List, codes, flat_map, map, IfOk, OnOk};
 ghost use Rattle.sql_tree.specs.Printing.{list_text, join_text, filter_text, limit_text, columns_text, charset_text, printed, item_text};
 ghost use Rattle.sql_tree.specs.Printing.{select_text, insert_text, update_text, delete_text};
 ghost use Rattle.std.specs.Fmt.{decimal};
@@ -12,12 +12,11 @@ use crate::{
     SelectList, Statement, Update,
 };
 use itoa::Buffer;
-use std::alloc::Global;
-use vt_value::{Items, Refusal};
+use std::alloc::{AllocError, Global};
+use vt_value::Items;
 
-fn put_list(out: &mut Vec<u8>, list: &SelectList) -> Result<(), Refusal>
+fn put_list(out: &mut Vec<u8>, list: &SelectList) -> Result<(), AllocError>
     ensures ok { OnOk result (out.new.items ≡ out.old.items ++ list_text list.now) }
-    ensures err { IfErr result (λ e. e ≡ Refusal.OutOfMemory) }
 {
     match list {
         SelectList::All => put(out, b"*"),
@@ -25,9 +24,8 @@ fn put_list(out: &mut Vec<u8>, list: &SelectList) -> Result<(), Refusal>
     }
 }
 
-fn put_filter(out: &mut Vec<u8>, filter: &Option<Condition<ColumnName>>) -> Result<(), Refusal>
+fn put_filter(out: &mut Vec<u8>, filter: &Option<Condition<ColumnName>>) -> Result<(), AllocError>
     ensures ok { OnOk result (out.new.items ≡ out.old.items ++ filter_text filter.now) }
-    ensures err { IfErr result (λ e. e ≡ Refusal.OutOfMemory) }
 {
     match filter {
         None => Ok(()),
@@ -38,9 +36,8 @@ fn put_filter(out: &mut Vec<u8>, filter: &Option<Condition<ColumnName>>) -> Resu
     }
 }
 
-fn put_join(out: &mut Vec<u8>, join: &Option<JoinOn>) -> Result<(), Refusal>
+fn put_join(out: &mut Vec<u8>, join: &Option<JoinOn>) -> Result<(), AllocError>
     ensures ok { OnOk result (out.new.items ≡ out.old.items ++ join_text join.now) }
-    ensures err { IfErr result (λ e. e ≡ Refusal.OutOfMemory) }
 {
     let Some(join) = join else {
         return Ok(());
@@ -53,17 +50,15 @@ fn put_join(out: &mut Vec<u8>, join: &Option<JoinOn>) -> Result<(), Refusal>
     put_column(out, &join.right)
 }
 
-fn put_number(out: &mut Vec<u8>, number: u64) -> Result<(), Refusal>
+fn put_number(out: &mut Vec<u8>, number: u64) -> Result<(), AllocError>
     ensures ok { OnOk result (out.new.items ≡ out.old.items ++ decimal number) }
-    ensures err { IfErr result (λ e. e ≡ Refusal.OutOfMemory) }
 {
     let mut buffer = Buffer::new();
     put(out, buffer.format(number).as_bytes())
 }
 
-fn put_limit(out: &mut Vec<u8>, limit: &Option<LimitClause>) -> Result<(), Refusal>
+fn put_limit(out: &mut Vec<u8>, limit: &Option<LimitClause>) -> Result<(), AllocError>
     ensures ok { OnOk result (out.new.items ≡ out.old.items ++ limit_text limit.now) }
-    ensures err { IfErr result (λ e. e ≡ Refusal.OutOfMemory) }
 {
     let Some(limit) = limit else {
         return Ok(());
@@ -77,9 +72,8 @@ fn put_limit(out: &mut Vec<u8>, limit: &Option<LimitClause>) -> Result<(), Refus
     put_number(out, limit.offset)
 }
 
-fn put_select(out: &mut Vec<u8>, select: &Select) -> Result<(), Refusal>
+fn put_select(out: &mut Vec<u8>, select: &Select) -> Result<(), AllocError>
     ensures ok { OnOk result (out.new.items ≡ out.old.items ++ select_text select.now) }
-    ensures err { IfErr result (λ e. e ≡ Refusal.OutOfMemory) }
 {
     put(out, b"SELECT ")?;
     put_list(out, &select.list)?;
@@ -92,9 +86,8 @@ fn put_select(out: &mut Vec<u8>, select: &Select) -> Result<(), Refusal>
     put_limit(out, &select.limit)
 }
 
-fn put_columns(out: &mut Vec<u8>, columns: &Option<Items<Name>>) -> Result<(), Refusal>
+fn put_columns(out: &mut Vec<u8>, columns: &Option<Items<Name>>) -> Result<(), AllocError>
     ensures ok { OnOk result (out.new.items ≡ out.old.items ++ columns_text columns.now) }
-    ensures err { IfErr result (λ e. e ≡ Refusal.OutOfMemory) }
 {
     match columns {
         None => Ok(()),
@@ -105,9 +98,8 @@ fn put_columns(out: &mut Vec<u8>, columns: &Option<Items<Name>>) -> Result<(), R
     }
 }
 
-fn put_insert(out: &mut Vec<u8>, insert: &Insert) -> Result<(), Refusal>
+fn put_insert(out: &mut Vec<u8>, insert: &Insert) -> Result<(), AllocError>
     ensures ok { OnOk result (out.new.items ≡ out.old.items ++ insert_text insert.now) }
-    ensures err { IfErr result (λ e. e ≡ Refusal.OutOfMemory) }
 {
     put(out, b"INSERT INTO ")?;
     put_name(out, insert.table.as_slice())?;
@@ -117,9 +109,8 @@ fn put_insert(out: &mut Vec<u8>, insert: &Insert) -> Result<(), Refusal>
     Ok(())
 }
 
-fn put_update(out: &mut Vec<u8>, update: &Update) -> Result<(), Refusal>
+fn put_update(out: &mut Vec<u8>, update: &Update) -> Result<(), AllocError>
     ensures ok { OnOk result (out.new.items ≡ out.old.items ++ update_text update.now) }
-    ensures err { IfErr result (λ e. e ≡ Refusal.OutOfMemory) }
 {
     put(out, b"UPDATE ")?;
     put_name(out, update.table.as_slice())?;
@@ -128,9 +119,8 @@ fn put_update(out: &mut Vec<u8>, update: &Update) -> Result<(), Refusal>
     put_filter(out, &update.filter)
 }
 
-fn put_delete(out: &mut Vec<u8>, delete: &Delete) -> Result<(), Refusal>
+fn put_delete(out: &mut Vec<u8>, delete: &Delete) -> Result<(), AllocError>
     ensures ok { OnOk result (out.new.items ≡ out.old.items ++ delete_text delete.now) }
-    ensures err { IfErr result (λ e. e ≡ Refusal.OutOfMemory) }
 {
     put(out, b"DELETE FROM ")?;
     put_name(out, delete.table.as_slice())?;
@@ -138,9 +128,8 @@ fn put_delete(out: &mut Vec<u8>, delete: &Delete) -> Result<(), Refusal>
     Ok(())
 }
 
-fn put_character_set(out: &mut Vec<u8>, set: &CharacterSet) -> Result<(), Refusal>
+fn put_character_set(out: &mut Vec<u8>, set: &CharacterSet) -> Result<(), AllocError>
     ensures ok { OnOk result (out.new.items ≡ out.old.items ++ charset_text set.now) }
-    ensures err { IfErr result (λ e. e ≡ Refusal.OutOfMemory) }
 {
     match set {
         CharacterSet::Identifier(name) => put_name(out, name.as_slice()),
@@ -148,9 +137,8 @@ fn put_character_set(out: &mut Vec<u8>, set: &CharacterSet) -> Result<(), Refusa
     }
 }
 
-fn put_statement(out: &mut Vec<u8>, statement: &Statement) -> Result<(), Refusal>
+fn put_statement(out: &mut Vec<u8>, statement: &Statement) -> Result<(), AllocError>
     ensures ok { OnOk result (out.new.items ≡ out.old.items ++ printed statement.now) }
-    ensures err { IfErr result (λ e. e ≡ Refusal.OutOfMemory) }
 {
     match statement {
         Statement::Select(select) => put_select(out, select),
@@ -172,9 +160,8 @@ fn put_statement(out: &mut Vec<u8>, statement: &Statement) -> Result<(), Refusal
 /// The text of a statement in its one form: keywords in upper case, one blank between words, after commas and around
 /// operators, an identifier bare, or in backquotes if it is a keyword, ASC and an OFFSET of 0 left out, and
 /// parentheses only where an AND or an OR needs them.
-pub fn print(alloc: Global, statement: &Statement) -> Result<Vec<u8>, Refusal>
+pub fn print(alloc: Global, statement: &Statement) -> Result<Vec<u8>, AllocError>
     ensures ok { IfOk result (λ v. v.items ≡ printed statement.now) }
-    ensures err { IfErr result (λ e. e ≡ Refusal.OutOfMemory) }
 {
     let mut out = Vec::new(alloc);
     put_statement(&mut out, statement)?;
@@ -182,9 +169,8 @@ pub fn print(alloc: Global, statement: &Statement) -> Result<Vec<u8>, Refusal>
 }
 
 /// The printed form of an item of a select list, as `COUNT(*)` or `SUM(c)`: the name of its column in a result.
-pub fn print_item(alloc: Global, item: &Item<ColumnName>) -> Result<Vec<u8>, Refusal>
+pub fn print_item(alloc: Global, item: &Item<ColumnName>) -> Result<Vec<u8>, AllocError>
     ensures ok { IfOk result (λ v. v.items ≡ item_text item.now) }
-    ensures err { IfErr result (λ e. e ≡ Refusal.OutOfMemory) }
 {
     let mut out = Vec::new(alloc);
     item.put(&mut out)?;

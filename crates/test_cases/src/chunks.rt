@@ -6,7 +6,7 @@ use resultset::{
     CHUNK_LIMIT, Chunks, Column, ColumnText, Kind, LAST_ROOM, Outcome, ResultSet, SetEnd, encode,
     encode_rows, encode_rows_after,
 };
-use std::alloc::Global;
+use std::alloc::{AllocError, Global};
 use vt_value::{Items, Refusal, Row, Value};
 
 /// The status of each reply.
@@ -134,7 +134,7 @@ fn is_refused(alloc: Global, rows: Failing, chunks: &mut Chunks) -> Result<bool,
     let columns = columns(alloc)?;
     let end = SetEnd::OkPacket;
     let done = encode_rows(alloc, columns.as_slice(), rows, 1, STATUS, end, chunks);
-    Ok(done == Err(Refusal::OutOfMemory))
+    Ok(matches!(done, Err(AllocError)))
 }
 
 /// Whether rows that fail end in a refusal, and leave the chunks as they were.

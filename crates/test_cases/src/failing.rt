@@ -2,8 +2,8 @@
 ghost use Rattle.std.specs.Prelude.{◌≡◌};
 
 use operators::Operator;
-use std::alloc::Global;
-use vt_value::{Items, Refusal, Row};
+use std::alloc::{AllocError, Global};
+use vt_value::{Items, Row};
 
 /// Gives `left` empty rows, and then has no memory.
 #[derive(Drop)]
@@ -19,10 +19,10 @@ impl Operator for Failing {
 
     ghost has_failed = { λ failing. failing.failed };
 
-    fn next(&mut self, alloc: Global) -> Result<Option<Row>, Refusal> {
+    fn next(&mut self, alloc: Global) -> Result<Option<Row>, AllocError> {
         if self.failed || self.left == 0 {
             self.failed = true;
-            return Err(Refusal::OutOfMemory);
+            return Err(AllocError);
         }
         self.left -= 1;
         Ok(Some(Items::new(alloc)))

@@ -5,7 +5,7 @@ use crate::failing::Failing;
 use aggregate::GroupMerge;
 use operators::*;
 use sql_tree::Key;
-use std::alloc::Global;
+use std::alloc::{AllocError, Global};
 use std::cell::Cell;
 use std::hash::DefaultHasher;
 use vt_value::{Items, Refusal, Row, Value};
@@ -22,7 +22,7 @@ impl Operator for Counting<'_> {
 
     ghost has_failed = { λ counting. ⟦<Rows as Operator>⟧.has_failed counting.input };
 
-    fn next(&mut self, alloc: Global) -> Result<Option<Row>, Refusal> {
+    fn next(&mut self, alloc: Global) -> Result<Option<Row>, AllocError> {
         self.calls.set(self.calls.get().wrapping_add(1));
         self.input.next(alloc)
     }
@@ -195,5 +195,5 @@ pub(crate) fn a_failed_input_gives_no_groups(alloc: Global) -> bool {
         failed: false,
     };
     let merge = GroupMerge::new(alloc, DefaultHasher::new(), input, &[], 0);
-    matches!(merge, Err(Refusal::OutOfMemory))
+    matches!(merge, Err(AllocError))
 }

@@ -3,9 +3,8 @@ use crate::values::refusal_of;
 use bytes::BytesMut;
 use mysql_message::{Command, numbers, put_eof, put_err, put_ok, read_command};
 use mysql_packet::{Framer, HeaderFault, Payload, put_payload};
-use std::alloc::Global;
+use std::alloc::{AllocError, Global};
 use test_fields::{CaseAnswer, Unanswered, bytes_of, count, fields, number, small_number, text_of};
-use vt_value::Refusal;
 
 fn put_payloads(told: &mut CaseAnswer, payloads: &[Payload]) {
     for payload in payloads {
@@ -73,7 +72,7 @@ pub(crate) fn payloads(alloc: Global, case: &str, told: &mut CaseAnswer) -> Resu
 pub(crate) fn put_packets(
     told: &mut CaseAnswer,
     packets: &[u8],
-    next: Result<u8, Refusal>,
+    next: Result<u8, AllocError>,
 ) -> Result<(), Unanswered> {
     told.put_bytes(packets);
     told.put(" ");

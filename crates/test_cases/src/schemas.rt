@@ -7,6 +7,7 @@ use std::alloc::Global;
 use test_fields::{CaseAnswer, Unanswered, fields, text_of};
 use vindex::AnyVindex;
 use vschema::{Column, ColumnType, Keyspace, Table, VSchema};
+use vt_value::Refusal;
 use vtgate_lines::{plan_line, read_ranges, refusal_line};
 
 /// The keyspaces and tables of a VSchema, or the number of its fault.
@@ -142,7 +143,7 @@ pub(crate) fn plan(alloc: Global, case: &str, told: &mut CaseAnswer) -> Result<(
     match read_ranges(alloc, shards) {
         Ok(Some(ranges)) => put_plan(alloc, &ranges, declared, &sql, told),
         Ok(None) => told.put("none"),
-        Err(refusal) => told.put_text(without_end(refusal_line(refusal).as_slice())),
+        Err(_) => told.put_text(without_end(refusal_line(Refusal::OutOfMemory).as_slice())),
     }
     Ok(())
 }

@@ -11,7 +11,7 @@ fn form(alloc: Global, text: &[u8]) -> Result<Vec<u8>, Refusal> {
     let tree = parse(alloc, text)?;
     let form = print(alloc, &tree);
     drop(tree);
-    form
+    Ok(form?)
 }
 
 /// The printed form of a text.

@@ -82,8 +82,8 @@ fn core_of<W: World, J: Naming>(alloc: Global, beginning: &Beginning) -> Result<
     ensures { IfOk result (λ core. core.tx ≡ None) }
 {
     match beginning {
-        Beginning::Commands => Core::commands(alloc, 1, 0),
-        Beginning::Greeting(access, salt) => Core::new(alloc, access, salt, 1),
+        Beginning::Commands => Ok(Core::commands(alloc, 1, 0)?),
+        Beginning::Greeting(access, salt) => Ok(Core::new(alloc, access, salt, 1)?),
     }
 }
 
@@ -338,6 +338,6 @@ pub(crate) fn serve_in_shop<R: Threads + Wait + Sync>(
     match ranges_fit(alloc, &schema, &ranges) {
         Ok(true) => serve_in_world::<Brand, R>(rt, alloc, schema, &ranges, talk, sink, reply),
         Ok(false) => Err(Refusal::NotSupported),
-        Err(refusal) => Err(refusal),
+        Err(_) => Err(Refusal::OutOfMemory),
     }
 }

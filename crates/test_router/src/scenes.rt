@@ -168,7 +168,7 @@ fn play_over<W: World + Send + Sync, J: Naming + Send + Sync, R: Threads + Wait 
                 scene,
             )
         }
-        Err(refusal) => Err(refusal),
+        Err(_) => Err(Refusal::OutOfMemory),
     }
 }
 

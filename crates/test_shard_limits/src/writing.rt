@@ -290,7 +290,7 @@ impl<J: Naming, R: Wait> Session<'_, J, R> {
         let query = query(self.alloc, item)?;
         let read = self.shard.read(self.rt, self.alloc, &mut self.pass, &query);
         drop(query);
-        read
+        Ok(read?)
     }
 
     // What COUNT(*) gives.

@@ -1,6 +1,7 @@
 //! Why a soak ends early.
 use crate::statement::Statement;
 use reshard_cutover::ReshardFault;
+use std::alloc::AllocError;
 use std::fmt;
 use vt_value::Refusal;
 
@@ -36,6 +37,13 @@ pub fn same(what: &'static str, one: u64, other: u64) -> Result<(), SoakFault> {
         return Ok(());
     }
     Err(SoakFault::Numbers(what, one, other))
+}
+
+/// No memory for a call.
+impl From<AllocError> for SoakFault {
+    fn from(_error: AllocError) -> SoakFault {
+        SoakFault::Memory
+    }
 }
 
 /// A refusal of a call that only wants memory.

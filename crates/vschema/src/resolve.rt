@@ -18,7 +18,7 @@ use crate::writes::{resolve_delete, resolve_insert, resolve_update};
 use sql_tree::{
     ColumnName, Condition, Item, JoinOn, Key, Name, Operand, Select, SelectList, Statement,
 };
-use std::alloc::Global;
+use std::alloc::{AllocError, Global};
 use vschema_json::ColumnType;
 use vt_value::{Boxed, Items, Refusal, Value, copy};
 
@@ -29,9 +29,8 @@ pub fn ordinal(table: &Table, name: &Name) -> usize
     column_ordinal(table, name).unwrap_or(0)
 }
 
-fn copy_values(alloc: Global, values: &[Value]) -> Result<Items<Value>, Refusal>
+fn copy_values(alloc: Global, values: &[Value]) -> Result<Items<Value>, AllocError>
     ensures ok { IfOk result (λ r. r ≡ values.now) }
-    ensures err { IfErr result (λ e. e ≡ Refusal.OutOfMemory) }
 {
     let mut copied = Items::new(alloc);
     for value in values {
@@ -44,9 +43,8 @@ fn resolve_operand(
     alloc: Global,
     scope: &Scope,
     operand: &Operand<ColumnName>,
-) -> Result<Operand<usize>, Refusal>
+) -> Result<Operand<usize>, AllocError>
     ensures ok { IfOk result (λ r. r ≡ resolved_operand scope.now operand.now) }
-    ensures err { IfErr result (λ e. e ≡ Refusal.OutOfMemory) }
 {
     match operand {
         Operand::Column(name) => Ok(Operand::Column(ordinal_in(scope, name))),
@@ -62,10 +60,9 @@ fn resolve_operands(
     scope: &Scope,
     a: &Operand<ColumnName>,
     b: &Operand<ColumnName>,
-) -> Result<(Operand<usize>, Operand<usize>), Refusal>
+) -> Result<(Operand<usize>, Operand<usize>), AllocError>
     ensures left { IfOk result (λ r. r.0 ≡ resolved_operand scope.now a.now) }
     ensures right { IfOk result (λ r. r.1 ≡ resolved_operand scope.now b.now) }
-    ensures err { IfErr result (λ e. e ≡ Refusal.OutOfMemory) }
 {
     let a = resolve_operand(alloc, scope, a)?;
     let b = resolve_operand(alloc, scope, b)?;
@@ -77,10 +74,9 @@ fn resolve_membership(
     scope: &Scope,
     a: &Operand<ColumnName>,
     members: &[Value],
-) -> Result<(Operand<usize>, Items<Value>), Refusal>
+) -> Result<(Operand<usize>, Items<Value>), AllocError>
     ensures operand { IfOk result (λ r. r.0 ≡ resolved_operand scope.now a.now) }
     ensures members { IfOk result (λ r. r.1 ≡ members.now) }
-    ensures err { IfErr result (λ e. e ≡ Refusal.OutOfMemory) }
 {
     let members = copy_values(alloc, members)?;
     let a = resolve_operand(alloc, scope, a)?;
@@ -92,9 +88,8 @@ fn resolve_condition(
     alloc: Global,
     scope: &Scope,
     condition: &Condition<ColumnName>,
-) -> Result<Condition<usize>, Refusal>
+) -> Result<Condition<usize>, AllocError>
     ensures ok { IfOk result (λ r. r ≡ resolved_condition scope.now condition.now) }
-    ensures err { IfErr result (λ e. e ≡ Refusal.OutOfMemory) }
 {
     match condition {
         Condition::Compare(op, a, b) => {
@@ -129,9 +124,8 @@ fn resolve_members(
     alloc: Global,
     scope: &Scope,
     members: &[Condition<ColumnName>],
-) -> Result<Items<Condition<usize>>, Refusal>
+) -> Result<Items<Condition<usize>>, AllocError>
     ensures ok { IfOk result (λ r. r ≡ map (resolved_condition scope.now) members.now) }
-    ensures err { IfErr result (λ e. e ≡ Refusal.OutOfMemory) }
 {
     let mut resolved = Items::new(alloc);
     for member in members {
@@ -141,9 +135,8 @@ fn resolve_members(
     Ok(resolved)
 }
 
-fn all_columns(alloc: Global, scope: &Scope) -> Result<Items<Item<usize>>, Refusal>
+fn all_columns(alloc: Global, scope: &Scope) -> Result<Items<Item<usize>>, AllocError>
     ensures ok { IfOk result (λ r. r ≡ map Item.Column (ordinals_from 0 (scope_columns scope.now))) }
-    ensures err { IfErr result (λ e. e ≡ Refusal.OutOfMemory) }
 {
     let count = column_count(scope);
     let mut shown = Items::from_vec(Vec::with_capacity(alloc, count)?);
@@ -170,9 +163,8 @@ fn resolve_items(
     alloc: Global,
     scope: &Scope,
     items: &[Item<ColumnName>],
-) -> Result<Items<Item<usize>>, Refusal>
+) -> Result<Items<Item<usize>>, AllocError>
     ensures ok { IfOk result (λ r. r ≡ map (resolved_item scope.now) items.now) }
-    ensures err { IfErr result (λ e. e ≡ Refusal.OutOfMemory) }
 {
     let mut resolved = Items::new(alloc);
     for item in items {
@@ -185,9 +177,8 @@ fn resolve_list(
     alloc: Global,
     scope: &Scope,
     list: &SelectList,
-) -> Result<Items<Item<usize>>, Refusal>
+) -> Result<Items<Item<usize>>, AllocError>
     ensures ok { IfOk result (λ r. r ≡ resolved_list scope.now list.now) }
-    ensures err { IfErr result (λ e. e ≡ Refusal.OutOfMemory) }
 {
     match list {
         SelectList::All => all_columns(alloc, scope),
@@ -208,9 +199,8 @@ fn is_qualified(item: &Item<ColumnName>) -> bool
     }
 }
 
-fn qualified_items(alloc: Global, items: &[Item<ColumnName>]) -> Result<Items<bool>, Refusal>
+fn qualified_items(alloc: Global, items: &[Item<ColumnName>]) -> Result<Items<bool>, AllocError>
     ensures ok { IfOk result (λ r. r ≡ map is_qualified items.now) }
-    ensures err { IfErr result (λ e. e ≡ Refusal.OutOfMemory) }
 {
     let mut qualified = Items::new(alloc);
     for item in items {
@@ -219,9 +209,8 @@ fn qualified_items(alloc: Global, items: &[Item<ColumnName>]) -> Result<Items<bo
     Ok(qualified)
 }
 
-fn qualified_in(alloc: Global, list: &SelectList) -> Result<Items<bool>, Refusal>
+fn qualified_in(alloc: Global, list: &SelectList) -> Result<Items<bool>, AllocError>
     ensures ok { IfOk result (λ r. r ≡ qualified_in list.now) }
-    ensures err { IfErr result (λ e. e ≡ Refusal.OutOfMemory) }
 {
     match list {
         SelectList::All => Ok(Items::new(alloc)),
@@ -230,9 +219,12 @@ fn qualified_in(alloc: Global, list: &SelectList) -> Result<Items<bool>, Refusal
 }
 
 /// The ordinals of these columns.
-pub fn resolve_names(alloc: Global, table: &Table, names: &[Name]) -> Result<Items<usize>, Refusal>
+pub fn resolve_names(
+    alloc: Global,
+    table: &Table,
+    names: &[Name],
+) -> Result<Items<usize>, AllocError>
     ensures ok { IfOk result (λ r. r ≡ map (ordinal table.now) names.now) }
-    ensures err { IfErr result (λ e. e ≡ Refusal.OutOfMemory) }
 {
     let mut ordinals = Items::new(alloc);
     for name in names {
@@ -245,9 +237,8 @@ fn resolve_columns(
     alloc: Global,
     scope: &Scope,
     columns: &[ColumnName],
-) -> Result<Items<usize>, Refusal>
+) -> Result<Items<usize>, AllocError>
     ensures ok { IfOk result (λ r. r ≡ map (ordinal_in scope.now) columns.now) }
-    ensures err { IfErr result (λ e. e ≡ Refusal.OutOfMemory) }
 {
     let mut ordinals = Items::new(alloc);
     for column in columns {
@@ -269,9 +260,8 @@ fn resolve_keys(
     alloc: Global,
     scope: &Scope,
     keys: &[Key<ColumnName>],
-) -> Result<Items<Key<usize>>, Refusal>
+) -> Result<Items<Key<usize>>, AllocError>
     ensures ok { IfOk result (λ r. r ≡ map (resolved_key scope.now) keys.now) }
-    ensures err { IfErr result (λ e. e ≡ Refusal.OutOfMemory) }
 {
     let mut resolved = Items::new(alloc);
     for key in keys {
@@ -285,9 +275,8 @@ pub fn resolve_filter(
     alloc: Global,
     scope: &Scope,
     filter: &Option<Condition<ColumnName>>,
-) -> Result<Option<Condition<usize>>, Refusal>
+) -> Result<Option<Condition<usize>>, AllocError>
     ensures ok { IfOk result (λ r. r ≡ option_map (resolved_condition scope.now) filter.now) }
-    ensures err { IfErr result (λ e. e ≡ Refusal.OutOfMemory) }
 {
     let Some(condition) = filter else {
         return Ok(None);
@@ -376,7 +365,7 @@ fn resolve_over(
     }
     let filter = match resolve_filter(alloc, scope, &select.filter) {
         Ok(filter) => filter,
-        Err(refusal) => return Err(refusal),
+        Err(_) => return Err(Refusal::OutOfMemory),
     };
     if is_not_supported(scope, select, &filter) {
         return Err(Refusal::NotSupported);

@@ -22,7 +22,7 @@ use crate::write_checks::{
     sets_unknown,
 };
 use sql_tree::{Assignment, Condition, Delete, Insert, Name, Update};
-use std::alloc::Global;
+use std::alloc::{AllocError, Global};
 use vschema_json::has_twice;
 use vt_value::{Items, Refusal, Row, Value, copy};
 
@@ -41,9 +41,8 @@ fn few_ordinals(table: &Table) -> Option<&'static [usize]>
     }
 }
 
-fn all_ordinals(alloc: Global, table: &Table) -> Result<Items<usize>, Refusal>
+fn all_ordinals(alloc: Global, table: &Table) -> Result<Items<usize>, AllocError>
     ensures ok { IfOk result (λ r. r ≡ ordinals_from 0 table.now.columns) }
-    ensures err { IfErr result (λ e. e ≡ Refusal.OutOfMemory) }
 {
     let mut ordinals = Items::new(alloc);
     for (ordinal, _) in table.columns.as_slice().iter().enumerate() {
@@ -56,9 +55,8 @@ fn insert_ordinals(
     alloc: Global,
     table: &Table,
     columns: &Option<Items<Name>>,
-) -> Result<Items<usize>, Refusal>
+) -> Result<Items<usize>, AllocError>
     ensures ok { IfOk result (λ r. r ≡ insert_ordinals table.now columns.now) }
-    ensures err { IfErr result (λ e. e ≡ Refusal.OutOfMemory) }
 {
     match columns {
         None => all_ordinals(alloc, table),
@@ -164,9 +162,8 @@ fn value_for(
     ordinals: &[usize],
     values: &[Value],
     ordinal: usize,
-) -> Result<Value, Refusal>
+) -> Result<Value, AllocError>
     ensures ok { IfOk result (λ v. v ≡ value_for ordinals.now values.now ordinal) }
-    ensures err { IfErr result (λ e. e ≡ Refusal.OutOfMemory) }
 {
     let Some(at) = position(ordinals, ordinal) else {
         return Ok(Value::Null);
@@ -182,9 +179,8 @@ fn whole_row(
     table: &Table,
     ordinals: &[usize],
     values: &[Value],
-) -> Result<Row, Refusal>
+) -> Result<Row, AllocError>
     ensures ok { IfOk result (λ r. r ≡ whole_row table.now ordinals.now values.now) }
-    ensures err { IfErr result (λ e. e ≡ Refusal.OutOfMemory) }
 {
     let columns = table.columns.as_slice();
     let mut row = Items::from_vec(Vec::with_capacity(alloc, columns.len())?);
@@ -200,9 +196,8 @@ fn whole_rows(
     table: &Table,
     ordinals: &[usize],
     rows: &[Items<Value>],
-) -> Result<Items<Row>, Refusal>
+) -> Result<Items<Row>, AllocError>
     ensures ok { IfOk result (λ r. r ≡ map (whole_row table.now ordinals.now) rows.now) }
-    ensures err { IfErr result (λ e. e ≡ Refusal.OutOfMemory) }
 {
     let mut whole = Items::from_vec(Vec::with_capacity(alloc, rows.len())?);
     for row in rows {
@@ -240,7 +235,7 @@ fn rows_at(
     if are_all_in_order(table, ordinals) {
         return Ok(insert.rows);
     }
-    whole_rows(alloc, table, ordinals, insert.rows.as_slice())
+    Ok(whole_rows(alloc, table, ordinals, insert.rows.as_slice())?)
 }
 
 // The rows of an INSERT, each whole, or its refusal.
@@ -350,9 +345,8 @@ fn resolve_assignment(
     alloc: Global,
     table: &Table,
     a: &Assignment<Name>,
-) -> Result<Assignment<usize>, Refusal>
+) -> Result<Assignment<usize>, AllocError>
     ensures ok { IfOk result (λ r. r ≡ resolved_assignment table.now a.now) }
-    ensures err { IfErr result (λ e. e ≡ Refusal.OutOfMemory) }
 {
     let value = copy(alloc, &a.value)?;
     Ok(Assignment {
@@ -365,9 +359,8 @@ fn resolve_assignments(
     alloc: Global,
     table: &Table,
     assignments: &[Assignment<Name>],
-) -> Result<Items<Assignment<usize>>, Refusal>
+) -> Result<Items<Assignment<usize>>, AllocError>
     ensures ok { IfOk result (λ r. r ≡ map (resolved_assignment table.now) assignments.now) }
-    ensures err { IfErr result (λ e. e ≡ Refusal.OutOfMemory) }
 {
     let mut resolved = Items::from_vec(Vec::with_capacity(alloc, assignments.len())?);
     for a in assignments {
@@ -393,7 +386,7 @@ fn update_of(
     let assignments = resolve_assignments(alloc, table, update.assignments.as_slice())?;
     let filter = match resolve_filter(alloc, &Scope::of(table), &update.filter) {
         Ok(filter) => filter,
-        Err(refusal) => return Err(refusal),
+        Err(_) => return Err(Refusal::OutOfMemory),
     };
     if let Some(refusal) = update_refusal(table, update, assignments.as_slice(), &filter) {
         return Err(refusal);

@@ -1,5 +1,5 @@
 //! The lines of the admin port.
-ghost use Rattle.std.specs.Prelude.{◌≡◌, ◌≢◌, ◌∷◌, ◌++◌, ℕ, List, codes, IfOk, IfErr, IfSome, IfNone, IsUtf8};
+ghost use Rattle.std.specs.Prelude.{◌≡◌, ◌≢◌, ◌∷◌, ◌++◌, ℕ, List, codes, IfOk, IfSome, IfNone, IsUtf8};
 ghost use Rattle.std.specs.List.{AllByRecursion};
 ghost use Rattle.keyrange.specs.declared.KeyRange.{KeyRange};
 ghost use Rattle.vtgate_lines.specs.Partitions.{IsListOf};
@@ -8,9 +8,8 @@ ghost use Rattle.vtgate_lines.specs.AdminLines.{single_words, IsCreate, AsksFor}
 use crate::lines::bytes_after;
 use crate::ranges::named_ranges;
 use keyrange::KeyRange;
-use std::alloc::Global;
+use std::alloc::{AllocError, Global};
 use std::str;
-use vt_value::Refusal;
 
 /// What a line of the admin port asks for.
 #[derive(Drop)]
@@ -36,11 +35,13 @@ pub enum AdminLine {
 }
 
 // The ranges of which two texts have the names, with a blank between the texts.
-fn two_lists(alloc: Global, text: &str) -> Result<Option<(Vec<KeyRange>, Vec<KeyRange>)>, Refusal>
+fn two_lists(
+    alloc: Global,
+    text: &str,
+) -> Result<Option<(Vec<KeyRange>, Vec<KeyRange>)>, AllocError>
     ensures found { IfOk result (λ o. IfSome o (λ x. (from : List ℕ) × (into : List ℕ) × (text.now ≡ from ++ 0x20 ∷ into)
         × IsListOf from x.0.items × IsListOf into x.1.items)) }
     ensures none { IfOk result (λ o. IfNone o ((from into : List ℕ) (a b : List KeyRange) → text.now ≡ from ++ 0x20 ∷ into → IsListOf from a → IsListOf into b → ⊥)) }
-    ensures err { IfErr result (λ e. e ≡ Refusal.OutOfMemory) }
 {
     let Some((from, into)) = text.split_once(' ') else {
         return Ok(None);
@@ -57,10 +58,9 @@ fn two_lists(alloc: Global, text: &str) -> Result<Option<(Vec<KeyRange>, Vec<Key
 fn read_create(
     alloc: Global,
     words: &[u8],
-) -> Result<Option<(Vec<KeyRange>, Vec<KeyRange>)>, Refusal>
+) -> Result<Option<(Vec<KeyRange>, Vec<KeyRange>)>, AllocError>
     ensures found { IfOk result (λ o. IfSome o (λ x. IsCreate words.now x.0.items x.1.items)) }
     ensures none { IfOk result (λ o. IfNone o ((sources targets : List KeyRange) → IsCreate words.now sources targets → ⊥)) }
-    ensures err { IfErr result (λ e. e ≡ Refusal.OutOfMemory) }
 {
     let Some(lists) = bytes_after(words, b"create ") else {
         return Ok(None);
@@ -102,9 +102,8 @@ fn single_word(words: &[u8]) -> Option<AdminLine>
 
 // Promise: The words of an admin line ask for exactly one thing, or are unknown
 /// What the words of a line ask for. Refuses for want of memory for the ranges.
-pub fn read_admin_line(alloc: Global, words: &[u8]) -> Result<AdminLine, Refusal>
+pub fn read_admin_line(alloc: Global, words: &[u8]) -> Result<AdminLine, AllocError>
     ensures ok { IfOk result (AsksFor words.now) }
-    ensures err { IfErr result (λ e. e ≡ Refusal.OutOfMemory) }
 {
     if let Some(line) = single_word(words) {
         return Ok(line);

@@ -6,7 +6,7 @@ use crate::rows::put;
 use keyrange::KeyRange;
 use planner::{Route, query_route, shards, write_route};
 use sql_parser::parse;
-use std::alloc::Global;
+use std::alloc::{AllocError, Global};
 use vschema::{Query, Typed, VSchema, Write};
 use vt_value::Refusal;
 
@@ -37,9 +37,8 @@ fn put_shard(
     out: &mut Vec<u8>,
     ranges: &[KeyRange],
     ordinal: usize,
-) -> Result<(), Refusal>
+) -> Result<(), AllocError>
     ensures ok { OnOk result (out.new.items ≡ out.old.items ++ range_word (slice_get ranges.now ordinal)) }
-    ensures err { IfErr result (λ e. e ≡ Refusal.OutOfMemory) }
 {
     match ranges.get(ordinal) {
         Some(range) => {
@@ -55,9 +54,8 @@ fn put_shards(
     out: &mut Vec<u8>,
     ranges: &[KeyRange],
     ordinals: &[usize],
-) -> Result<(), Refusal>
+) -> Result<(), AllocError>
     ensures ok { OnOk result (out.new.items ≡ out.old.items ++ flat_map (λ n. range_word (slice_get ranges.now n)) ordinals.now) }
-    ensures err { IfErr result (λ e. e ≡ Refusal.OutOfMemory) }
 {
     for ordinal in ordinals {
         put_shard(alloc, out, ranges, *ordinal)?;
@@ -72,9 +70,8 @@ fn put_route(
     route: &Route,
     ranges: &[KeyRange],
     ordinals: &[usize],
-) -> Result<(), Refusal>
+) -> Result<(), AllocError>
     ensures ok { OnOk result (out.new.items ≡ out.old.items ++ shards_text route.now ranges.now ordinals.now) }
-    ensures err { IfErr result (λ e. e ≡ Refusal.OutOfMemory) }
 {
     match route {
         Route::Unsharded => put(out, b" 0"),
@@ -88,9 +85,8 @@ fn printed(
     route: &Route,
     ranges: &[KeyRange],
     ordinals: &[usize],
-) -> Result<Vec<u8>, Refusal>
+) -> Result<Vec<u8>, AllocError>
     ensures ok { IfOk result (λ line. line.items ≡ plan_text name.now route.now ranges.now ordinals.now) }
-    ensures err { IfErr result (λ e. e ≡ Refusal.OutOfMemory) }
 {
     let mut out = Vec::new(alloc);
     put(&mut out, name)?;
@@ -105,9 +101,8 @@ fn write_line(
     schema: &VSchema,
     ranges: &[KeyRange],
     write: &Write,
-) -> Result<Vec<u8>, Refusal>
+) -> Result<Vec<u8>, AllocError>
     ensures ok { IfOk result (λ line. line.items ≡ write_text schema.now ranges.now write.now) }
-    ensures err { IfErr result (λ e. e ≡ Refusal.OutOfMemory) }
 {
     let route = write_route(alloc, schema, write)?;
     let (Write::Insert(ordinal, _) | Write::Update(ordinal, _, _) | Write::Delete(ordinal, _)) =
@@ -128,9 +123,8 @@ fn owned_line(
     schema: &VSchema,
     ranges: &[KeyRange],
     write: Write,
-) -> Result<Vec<u8>, Refusal>
+) -> Result<Vec<u8>, AllocError>
     ensures ok { IfOk result (λ line. line.items ≡ write_text schema.now ranges.now write) }
-    ensures err { IfErr result (λ e. e ≡ Refusal.OutOfMemory) }
 {
     let line = write_line(alloc, schema, ranges, &write);
     drop(write);
@@ -142,9 +136,8 @@ fn query_line(
     schema: &VSchema,
     ranges: &[KeyRange],
     query: &Query,
-) -> Result<Vec<u8>, Refusal>
+) -> Result<Vec<u8>, AllocError>
     ensures ok { IfOk result (λ line. line.items ≡ typed_text schema.now ranges.now (Typed.Select query.now)) }
-    ensures err { IfErr result (λ e. e ≡ Refusal.OutOfMemory) }
 {
     let route = query_route(alloc, schema, query)?;
     let Some(table) = schema.tables.as_slice().get(query.table) else {
@@ -159,9 +152,8 @@ fn typed_line(
     schema: &VSchema,
     ranges: &[KeyRange],
     typed: Typed,
-) -> Result<Vec<u8>, Refusal>
+) -> Result<Vec<u8>, AllocError>
     ensures ok { IfOk result (λ line. line.items ≡ typed_text schema.now ranges.now typed) }
-    ensures err { IfErr result (λ e. e ≡ Refusal.OutOfMemory) }
 {
     match typed {
         Typed::Select(query) => {
@@ -192,5 +184,5 @@ pub fn plan_line(
 {
     let statement = parse(alloc, sql)?;
     let typed = schema.resolve(alloc, statement)?;
-    typed_line(alloc, schema, ranges, typed)
+    Ok(typed_line(alloc, schema, ranges, typed)?)
 }

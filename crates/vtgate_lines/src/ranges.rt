@@ -1,21 +1,19 @@
 //! The word that names the shards of a keyspace: the names of their ranges, with commas between them.
-ghost use Rattle.std.specs.Prelude.{◌≡◌, ◌∷◌, [], ◌++◌, false, List, IsTrue, IfOk, IfErr, IfSome, IfNone, IsSomeAnd};
+ghost use Rattle.std.specs.Prelude.{◌≡◌, ◌∷◌, [], ◌++◌, false, List, IsTrue, IfOk, IfSome, IfNone, IsSomeAnd};
 ghost use Rattle.keyrange.specs.Names.{IsNameOf};
 ghost use Rattle.keyrange.specs.declared.KeyRange.{KeyRange};
 ghost use Rattle.vtgate_lines.specs.Partitions.{IsListOf, NamesPartition};
 
 use keyrange::{KeyRange, covers_once};
-use std::alloc::Global;
-use vt_value::Refusal;
+use std::alloc::{AllocError, Global};
 
 /// How many ranges a keyspace may have at most.
 pub const MOST_RANGES: usize = 64;
 
 /// Puts the range of this name after the others, and returns whether there is one.
-fn push_named(ranges: &mut Vec<KeyRange>, name: &str) -> Result<bool, Refusal>
+fn push_named(ranges: &mut Vec<KeyRange>, name: &str) -> Result<bool, AllocError>
     ensures found { IfOk result (λ b. IsTrue b → (range : KeyRange) × IsNameOf name.now range × (ranges.new.items ≡ ranges.old.items ++ range ∷ [])) }
     ensures none { IfOk result (λ b. b ≡ false → (range : KeyRange) → IsNameOf name.now range → ⊥) }
-    ensures err { IfErr result (λ e. e ≡ Refusal.OutOfMemory) }
 {
     match KeyRange::read(name) {
         // by its edges: the check can't follow a whole range of another crate here
@@ -28,10 +26,9 @@ fn push_named(ranges: &mut Vec<KeyRange>, name: &str) -> Result<bool, Refusal>
 }
 
 /// The ranges of which the text has the names, in the text's order. `None` if some part is no range's name.
-pub(crate) fn named_ranges(alloc: Global, text: &str) -> Result<Option<Vec<KeyRange>>, Refusal>
+pub(crate) fn named_ranges(alloc: Global, text: &str) -> Result<Option<Vec<KeyRange>>, AllocError>
     ensures found { IfOk result (λ o. IfSome o (λ v. IsListOf text.now v.items)) }
     ensures only { IfOk result (λ o. (ranges : List KeyRange) → IsListOf text.now ranges → IsSomeAnd o (λ v. v.items ≡ ranges)) }
-    ensures err { IfErr result (λ e. e ≡ Refusal.OutOfMemory) }
 {
     let mut ranges = Vec::new(alloc);
     let mut rest = text;
@@ -51,10 +48,9 @@ pub(crate) fn named_ranges(alloc: Global, text: &str) -> Result<Option<Vec<KeyRa
 // Promise: A word names ranges exactly when it has the names of at most 64 that cover each id once; they come in range order
 /// The ranges that a comma list of names has, as `-80,80-`, in the order of their begins. `None` if some part is no
 /// range's name, if there are more than 64, or if some id lies in none of them or in several.
-pub fn read_ranges(alloc: Global, text: &str) -> Result<Option<Vec<KeyRange>>, Refusal>
+pub fn read_ranges(alloc: Global, text: &str) -> Result<Option<Vec<KeyRange>>, AllocError>
     ensures found { IfOk result (λ o. IfSome o (λ v. NamesPartition text.now v.items)) }
     ensures none { IfOk result (λ o. IfNone o ((ranges : List KeyRange) → NamesPartition text.now ranges → ⊥)) }
-    ensures err { IfErr result (λ e. e ≡ Refusal.OutOfMemory) }
 {
     let Some(mut ranges) = named_ranges(alloc, text)? else {
         return Ok(None);

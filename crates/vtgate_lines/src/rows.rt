@@ -1,5 +1,5 @@
 //! The lines of a result.
-ghost use Rattle.std.specs.Prelude.{◌≡◌, ◌<◌, ◌++◌, List, codes, flat_map, map, IfErr, OnOk};
+ghost use Rattle.std.specs.Prelude.{◌≡◌, ◌<◌, ◌++◌, List, codes, flat_map, map, OnOk};
 ghost use Rattle.std.specs.Fmt.{decimal};
 ghost use Rattle.keyrange.specs.Names.{hex_digit};
 ghost use Rattle.sql_tree.specs.Printing.{following};
@@ -7,13 +7,12 @@ ghost use Rattle.vtgate_lines.specs.Printed.{is_printable, byte_text, printed_va
 
 use itoa::Buffer;
 use operators::{Operator, ShownRows};
-use std::alloc::Global;
-use vt_value::{Refusal, Row, Value};
+use std::alloc::{AllocError, Global};
+use vt_value::{Row, Value};
 
 /// Puts a text as it is.
-pub(crate) fn put(out: &mut Vec<u8>, text: &[u8]) -> Result<(), Refusal>
+pub(crate) fn put(out: &mut Vec<u8>, text: &[u8]) -> Result<(), AllocError>
     ensures ok { OnOk result (out.new.items ≡ out.old.items ++ text.now) }
-    ensures err { IfErr result (λ e. e ≡ Refusal.OutOfMemory) }
 {
     out.extend_from_slice(text)?;
     Ok(())
@@ -37,9 +36,8 @@ fn is_plain(byte: u8) -> bool
     0x20 <= byte && byte <= 0x7E && byte != b'\'' && byte != b'\\'
 }
 
-fn put_byte(out: &mut Vec<u8>, byte: u8) -> Result<(), Refusal>
+fn put_byte(out: &mut Vec<u8>, byte: u8) -> Result<(), AllocError>
     ensures ok { OnOk result (out.new.items ≡ out.old.items ++ byte_text byte) }
-    ensures err { IfErr result (λ e. e ≡ Refusal.OutOfMemory) }
 {
     if is_plain(byte) {
         put(out, &[byte])
@@ -51,9 +49,8 @@ fn put_byte(out: &mut Vec<u8>, byte: u8) -> Result<(), Refusal>
     }
 }
 
-fn put_bytes(out: &mut Vec<u8>, bytes: &[u8]) -> Result<(), Refusal>
+fn put_bytes(out: &mut Vec<u8>, bytes: &[u8]) -> Result<(), AllocError>
     ensures ok { OnOk result (out.new.items ≡ out.old.items ++ flat_map byte_text bytes.now) }
-    ensures err { IfErr result (λ e. e ≡ Refusal.OutOfMemory) }
 {
     for byte in bytes {
         put_byte(out, *byte)?;
@@ -61,9 +58,8 @@ fn put_bytes(out: &mut Vec<u8>, bytes: &[u8]) -> Result<(), Refusal>
     Ok(())
 }
 
-fn put_value(out: &mut Vec<u8>, value: &Value) -> Result<(), Refusal>
+fn put_value(out: &mut Vec<u8>, value: &Value) -> Result<(), AllocError>
     ensures ok { OnOk result (out.new.items ≡ out.old.items ++ printed_value value.now) }
-    ensures err { IfErr result (λ e. e ≡ Refusal.OutOfMemory) }
 {
     match value {
         Value::Null => put(out, b"NULL"),
@@ -80,9 +76,8 @@ fn put_value(out: &mut Vec<u8>, value: &Value) -> Result<(), Refusal>
 }
 
 // Puts each value with a bar before it.
-fn put_following(out: &mut Vec<u8>, values: &[Value]) -> Result<(), Refusal>
+fn put_following(out: &mut Vec<u8>, values: &[Value]) -> Result<(), AllocError>
     ensures ok { OnOk result (out.new.items ≡ out.old.items ++ following (codes "|") (map printed_value values.now)) }
-    ensures err { IfErr result (λ e. e ≡ Refusal.OutOfMemory) }
 {
     for value in values {
         put(out, b"|")?;
@@ -91,9 +86,8 @@ fn put_following(out: &mut Vec<u8>, values: &[Value]) -> Result<(), Refusal>
     Ok(())
 }
 
-fn put_row(out: &mut Vec<u8>, row: &[Value]) -> Result<(), Refusal>
+fn put_row(out: &mut Vec<u8>, row: &[Value]) -> Result<(), AllocError>
     ensures ok { OnOk result (out.new.items ≡ out.old.items ++ printed_row row.now) }
-    ensures err { IfErr result (λ e. e ≡ Refusal.OutOfMemory) }
 {
     match row {
         [] => Ok(()),
@@ -104,9 +98,8 @@ fn put_row(out: &mut Vec<u8>, row: &[Value]) -> Result<(), Refusal>
     }
 }
 
-fn put_row_lines(out: &mut Vec<u8>, rows: &[Row]) -> Result<(), Refusal>
+fn put_row_lines(out: &mut Vec<u8>, rows: &[Row]) -> Result<(), AllocError>
     ensures ok { OnOk result (out.new.items ≡ out.old.items ++ flat_map (λ row. line (printed_row row)) rows.now) }
-    ensures err { IfErr result (λ e. e ≡ Refusal.OutOfMemory) }
 {
     for row in rows {
         put_row(out, row.as_slice())?;
@@ -116,9 +109,8 @@ fn put_row_lines(out: &mut Vec<u8>, rows: &[Row]) -> Result<(), Refusal>
 }
 
 // Puts the line that says how many rows there are.
-fn put_row_count(out: &mut Vec<u8>, count: u64) -> Result<(), Refusal>
+fn put_row_count(out: &mut Vec<u8>, count: u64) -> Result<(), AllocError>
     ensures ok { OnOk result (out.new.items ≡ out.old.items ++ line (codes "rows " ++ decimal count)) }
-    ensures err { IfErr result (λ e. e ≡ Refusal.OutOfMemory) }
 {
     let mut buffer = Buffer::new();
     put(out, b"rows ")?;
@@ -130,9 +122,8 @@ fn put_pulled_lines<O: Operator>(
     alloc: Global,
     out: &mut Vec<u8>,
     rows: &mut O,
-) -> Result<(), Refusal>
+) -> Result<(), AllocError>
     ensures ok { OnOk result (out.new.items ≡ out.old.items ++ flat_map (λ row. line (printed_row row)) (O.to_come rows.old)) }
-    ensures err { IfErr result (λ e. e ≡ Refusal.OutOfMemory) }
 {
     while let Some(row) = rows.next(alloc)? {
         put_row(out, row.as_slice())?;
@@ -142,9 +133,8 @@ fn put_pulled_lines<O: Operator>(
 }
 
 /// Puts a result as `put_rows`, whose rows are shown one by one. Refuses only for want of memory.
-pub fn put_shown_rows(alloc: Global, out: &mut Vec<u8>, rows: ShownRows) -> Result<(), Refusal>
+pub fn put_shown_rows(alloc: Global, out: &mut Vec<u8>, rows: ShownRows) -> Result<(), AllocError>
     ensures ok { OnOk result (out.new.items ≡ out.old.items ++ rows_text rows) }
-    ensures err { IfErr result (λ e. e ≡ Refusal.OutOfMemory) }
 {
     let count = rows.len() as u64;
     let mut pulled = rows.pulled(alloc)?;
@@ -157,9 +147,8 @@ pub fn put_shown_rows(alloc: Global, out: &mut Vec<u8>, rows: ShownRows) -> Resu
 /// Puts a result: a line for each row, its values with bars between them, and a line that says how many rows there are,
 /// as `rows 2`. A number is in decimal, NULL is `NULL`, and a text is in single quotes, with each byte outside 20..7E,
 /// each quote and each backslash as `\x` and two lower-case hexadecimal digits. Refuses only for want of memory.
-pub fn put_rows(out: &mut Vec<u8>, rows: &[Row]) -> Result<(), Refusal>
+pub fn put_rows(out: &mut Vec<u8>, rows: &[Row]) -> Result<(), AllocError>
     ensures ok { OnOk result (out.new.items ≡ out.old.items ++ rows_text rows.now) }
-    ensures err { IfErr result (λ e. e ≡ Refusal.OutOfMemory) }
 {
     put_row_lines(out, rows)?;
     put_row_count(out, rows.len() as u64)

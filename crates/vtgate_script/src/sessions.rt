@@ -37,7 +37,7 @@ fn write_rows<O: Sink>(alloc: Global, rows: ShownRows, output: &mut O) -> Result
     let mut text = Vec::new(alloc);
     match put_shown_rows(alloc, &mut text, rows) {
         Ok(()) => output.write(&text),
-        Err(refusal) => output.write(refusal_line(refusal).as_slice()),
+        Err(_) => output.write(refusal_line(Refusal::OutOfMemory).as_slice()),
     }
 }
 

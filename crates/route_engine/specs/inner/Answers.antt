@@ -1,7 +1,9 @@
 -- What a text gives outside a transaction, by the engine's own steps.
-use Rattle.std.specs.Prelude.{◌≡◌, ℕ, ◌≤◌, ◌^◌, List, Ok, Err}
+use Rattle.std.specs.Prelude.{◌≡◌, ℕ, ◌≤◌, ◌^◌, List, Bool, Ok, Err}
 use Rattle.vt_value.specs.declared.refusal.Refusal.{Refusal}
 use Rattle.vt_value.specs.declared.refusal.Refusal.TheVariants.{OutOfMemory, SyntaxError, ShardFull}
+use Rattle.vt_value.specs.Values.{Row}
+use Rattle.sql_tree.specs.declared.Item.{Item}
 use Rattle.sql_tree.specs.declared.Statement.{Statement}
 use Rattle.sql_parser.specs.Grammar.{Reads}
 use Rattle.vschema.specs.declared.schema.Query.{Query}
@@ -14,7 +16,9 @@ use Rattle.shard_run.specs.declared.Entry.{Entry}
 use Rattle.shard_run.specs.Runs.{Opening}
 use Rattle.shard_law.specs.declared.limits.Limits.{Limits}
 use Rattle.shard_calls.specs.declared.reply.Reply.{Reply}
-use Rattle.shard_calls.specs.Answers.{counted, HasGone, MayReadRefuse, Gives, MayWriteRefuse}
+use Rattle.shard_calls.specs.declared.reply.Answer.TheVariants.{Rows}
+use Rattle.shard_calls.specs.declared.reply.ShardRead.{ShardRead}
+use Rattle.shard_calls.specs.Answers.{counted, HasGone, HasRead, MayReadRefuse, Gives, MayWriteRefuse}
 
 -- The text is a statement under the VSchema, and the reply is what it gives, from the pass with the statement's number.
 pub record IsReply (o : Opening) (limits : Limits) (p : PassView Entry) (text : List ℕ) (reply : Reply) (now : PassView Entry) : Type 0 where
@@ -23,6 +27,19 @@ pub record IsReply (o : Opening) (limits : Limits) (p : PassView Entry) (text : 
   pub reads : Reads text statement
   pub resolved : typed_statement o.schema statement ≡ Ok typed
   pub gives : Gives o limits p typed reply now
+
+-- the reply that is made of these parts has the rows of the query
+abbrev pub HasReadRows : Opening → PassView Entry → Query → List (Item ℕ) → List Bool → List Row → List ShardRead → PassView Entry → Type 0
+HasReadRows o p query items qualified rows reads now = HasRead o p query (record {
+  answer = Rows (record {
+    table = query.table;
+    join = query.join;
+    items = items;
+    qualified = qualified;
+    rows = rows;
+  });
+  reads = reads;
+}) now
 
 -- Why a numbered text is refused: a growth was refused; the text has no tree; its tree is refused under the VSchema; or the query or the write
 -- is refused.

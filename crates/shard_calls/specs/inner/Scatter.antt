@@ -1,9 +1,8 @@
 -- What a shard is asked, what it gave, and what the gathered readings are.
-use Rattle.std.specs.Prelude.{◌≡◌, ℕ, ◌+◌, List, [], ◌∷◌, map, flat_map, Bool, true, false, Contains, IfOk, IfErr, Result, Ok, Err, None, All, IsSorted}
+use Rattle.std.specs.Prelude.{◌≡◌, ℕ, ◌+◌, List, [], ◌∷◌, map, flat_map, Bool, true, false, Contains, IfOk, Result, Ok, Err, None, All, IsSorted}
 use Rattle.std.specs.List.{AllByRecursion, AllZip}
 use mathlib.Core.List.{IsPrefix}
-use Rattle.vt_value.specs.declared.refusal.Refusal.{Refusal}
-use Rattle.vt_value.specs.declared.refusal.Refusal.TheVariants.{OutOfMemory}
+use Rattle.std.specs.declared.alloc.AllocError.{AllocError}
 use Rattle.vt_value.specs.Values.{Row}
 use Rattle.operators.specs.Orders.{row_cmp}
 use Rattle.vschema.specs.declared.schema.Table.{Table}
@@ -44,7 +43,7 @@ pub record ShardRequest : Type 0 where
 pub record ShardReply : Type 0 where
   pub slot : ℕ
   pub pass : PassView Entry
-  pub outcome : Result ReadOutcome Refusal
+  pub outcome : Result ReadOutcome AllocError
 
 -- each shard that the plan needs is asked its piece, by a pass that has seen the run
 abbrev pub asked : Table → Plan → List Entry → Seat → ShardRequest
@@ -73,7 +72,6 @@ pub record IsReadingOf (o : Opening) (a : ShardRequest) (g : ShardReply) : Type 
   pub in_place : shard.place ≡ a.place
   pub looked : HasLooked o a.slot a.pass g.pass
   pub read : IfOk g.outcome (AnswersQuery o g.pass.seen shard a.query)
-  pub refused : IfErr g.outcome (λ e. e ≡ OutOfMemory)
 
 abbrev pub rows_of_read : ReadOutcome → List Row
 rows_of_read (Rows r) = r.rows
@@ -87,15 +85,15 @@ abbrev pub has_rows : ReadOutcome → Bool
 has_rows (Rows r) = true
 has_rows NotServing = false
 
-abbrev pub outcome_rows : Result ReadOutcome Refusal → List Row
+abbrev pub outcome_rows : Result ReadOutcome AllocError → List Row
 outcome_rows (Ok r) = rows_of_read r
 outcome_rows (Err e) = []
 
-abbrev pub entries_in : Result ReadOutcome Refusal → ℕ
+abbrev pub entries_in : Result ReadOutcome AllocError → ℕ
 entries_in (Ok r) = entries_of_read r
 entries_in (Err e) = 0
 
-abbrev pub is_read : Result ReadOutcome Refusal → Bool
+abbrev pub is_read : Result ReadOutcome AllocError → Bool
 is_read (Ok r) = has_rows r
 is_read (Err e) = false
 

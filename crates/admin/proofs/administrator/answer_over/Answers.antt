@@ -8,7 +8,7 @@ use Rattle.admin.proofs.administrator.answer_over.Goals as goal
 
 pub returns-in-Err-clause-answered : goal.returns-in-Err-clause-answered
 returns-in-Err-clause-answered g c =
-    subst (IsAnswered _ _ c.args.words.now _ _ _ _) (sym c.refused.ensures) (line_memory _ _ _ _ _ c.in-Err.refusal c.in-Err.ensures.err)
+    subst (IsAnswered _ _ c.args.words.now _ _ _ _) (sym c.refused.ensures) (line_memory _ _ _ _ _ _ refl)
 
 pub create-requires-clause-named : goal.create-requires-clause-named
 create-requires-clause-named g c =

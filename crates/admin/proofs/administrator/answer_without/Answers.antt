@@ -1,11 +1,11 @@
-use Rattle.std.proofs.Common.{lit<, sym, subst}
+use Rattle.std.proofs.Common.{lit<, refl, sym, subst}
 use Rattle.admin.specs.AdminAnswers.{IsAnsweredWithout}
 use Rattle.admin.proofs.Lines.{without_memory, status_without, create_without, other_without, unknown_without}
 use Rattle.admin.proofs.administrator.answer_without.Goals as goal
 use Rattle.admin.proofs.administrator.answer_without.Goals.{in-Status, in-Create, in-Step, in-Switch, in-Advance, in-Resume, in-Cancel, in-Complete, in-Unknown}
 
 pub returns-in-Err : goal.returns-in-Err
-returns-in-Err c = subst (IsAnsweredWithout c.args.words.now) (sym c.refused.ensures) (without_memory _ c.in-Err.refusal c.in-Err.ensures.err)
+returns-in-Err c = subst (IsAnsweredWithout c.args.words.now) (sym c.refused.ensures) (without_memory _ _ refl)
 
 pub returns : goal.returns
 returns c =

@@ -10,4 +10,4 @@ returns-in-Ok c =
     subst (λ (text : List ℕ). IsAnsweredWithout (codes "status") (Status text)) (sym (c.from_vec.ensures ∙ c.in-Ok.ensures.ok)) (status refl)
 
 pub returns-in-Err : goal.returns-in-Err
-returns-in-Err c = without_memory (codes "status") c.in-Err.refusal c.in-Err.ensures.err
+returns-in-Err c = without_memory (codes "status") _ refl

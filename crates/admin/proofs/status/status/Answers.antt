@@ -1,3 +1,4 @@
+use Rattle.std.proofs.Common.{refl}
 use Rattle.admin.specs.AdminAnswers.{told}
 use Rattle.admin.proofs.Lines.{status_memory}
 use Rattle.admin.proofs.status.status.Goals as goal
@@ -6,4 +7,4 @@ pub returns-in-Ok : goal.returns-in-Ok
 returns-in-Ok g c = told c.in-Ok.ensures.ok
 
 pub returns-in-Err : goal.returns-in-Err
-returns-in-Err g c = status_memory _ c.in-Err.refusal c.in-Err.ensures.err
+returns-in-Err g c = status_memory _ _ refl

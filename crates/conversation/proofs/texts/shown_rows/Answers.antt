@@ -6,4 +6,4 @@ pub returns-in-Ok : goal.returns-in-Ok
 returns-in-Ok c = inl (shows _ _ c.in-Ok.set c.in-Ok.ensures.columns c.in-Ok.ensures.rows)
 
 pub returns-in-Err : goal.returns-in-Err
-returns-in-Err c = rw c.in-Err.ensures.err (inr refl)
+returns-in-Err c = inr refl

@@ -9,7 +9,7 @@ cut_condition-returns-in_default t c =
     let home = c.args.home.now in
     let same =
     cut_of-other home.keys (is_member_of home.table.now home.range.now) c.args.condition.now c.in_default.not-In c.in_default.not-And in
-    record { ok = subst (λ z. IfOk c.copy_condition.result (λ r. r ≡ z)) (sym same) c.copy_condition.ensures.ok; err = c.copy_condition.ensures.err }
+    record { ok = subst (λ z. IfOk c.copy_condition.result (λ r. r ≡ z)) (sym same) c.copy_condition.ensures.ok }
 
 pub cut_members-loop-member-preserved : goal.cut_members-loop-member-preserved
 cut_members-loop-member-preserved t c =

@@ -1,9 +1,10 @@
-use Rattle.std.proofs.Common.{◌≡◌, length, map, sym, ap, subst, List, [], arith, IsSorted}
+use Rattle.std.proofs.Common.{◌≡◌, length, map, sym, ap, subst, List, [], arith, IsSorted, refl}
 use Rattle.std.specs.List.{AllByRecursion}
 use Rattle.std.proofs.lemmas.List.Sorted.{length_permutation}
 use Rattle.keyrange.specs.declared.KeyRange.{KeyRange}
 use Rattle.keyrange.specs.Names.{IsNamed}
 use Rattle.shard_run.specs.declared.ShardRecord.{ShardRecord}
+use Rattle.vt_value.specs.declared.refusal.Refusal.TheVariants.{OutOfMemory}
 use Rattle.reshard_create.specs.Choices.{begin_cmp}
 use Rattle.reshard_create.specs.Splits.{AreOverlapped}
 use Rattle.reshard_create.specs.inner.Created.{IsMadeOf}
@@ -13,9 +14,9 @@ use Rattle.reshard_create.proofs.new_workflow.begin.Goals as goal
 
 pub returns-in_err-ranges-clause-err : goal.returns-in_err-ranges-clause-err
 returns-in_err-ranges-clause-err g c =
-    residual c.from_residual-in_err-ranges.result c.in_err-ranges.field-0.0 _ c.from_residual-in_err-ranges.ensures.1
+    residual c.from_residual-in_err-ranges.result OutOfMemory _ c.from_residual-in_err-ranges.ensures.1
     (create_memory g.W.World.opening c.args.pass.now c.survey.new.pass c.args.config.keyspace (length c.args.free.now.items) c.args.sources.now
-    c.args.targets.now c.in_err-ranges.field-0.0 c.in_err-ranges.ensures.err)
+    c.args.targets.now OutOfMemory refl)
 
 pub make_targets-requires-clause-enough : goal.make_targets-requires-clause-enough
 make_targets-requires-clause-enough g c =
@@ -44,9 +45,9 @@ make_targets-requires-clause-covered g c =
 
 pub returns-in_err-made-clause-err : goal.returns-in_err-made-clause-err
 returns-in_err-made-clause-err g c =
-    residual c.from_residual-in_err-made.result c.in_err-made.field-0.0 _ c.from_residual-in_err-made.ensures.1
+    residual c.from_residual-in_err-made.result OutOfMemory _ c.from_residual-in_err-made.ensures.1
     (create_memory g.W.World.opening c.args.pass.now c.survey.new.pass c.args.config.keyspace (length c.args.free.now.items) c.args.sources.now
-    c.args.targets.now c.in_err-made.field-0.0 c.in_err-made.ensures.err)
+    c.args.targets.now OutOfMemory refl)
 
 pub returns-clause-begun : goal.returns-clause-begun
 returns-clause-begun g c =

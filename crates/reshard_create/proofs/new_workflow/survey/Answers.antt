@@ -1,5 +1,6 @@
 use Rattle.std.proofs.Common.{map, refl, ◌∙◌, arith}
 use Rattle.std.proofs.lemmas.List.Sorted.{IsPermutation-map}
+use Rattle.vt_value.specs.declared.refusal.Refusal.TheVariants.{OutOfMemory}
 use Rattle.reshard_create.proofs.Begins.{told_apart, surveyed, surveyed_again}
 use Rattle.reshard_cutover.proofs.Residual.{residual_same}
 use Rattle.reshard_create.proofs.Unfit.{residual, create_memory, sources_again, too_few, too_many}
@@ -7,9 +8,9 @@ use Rattle.reshard_create.proofs.new_workflow.survey.Goals as goal
 
 pub returns-in_err-chosen-clause-err : goal.returns-in_err-chosen-clause-err
 returns-in_err-chosen-clause-err g c =
-    residual c.from_residual.result c.in_err-chosen.field-0.0 _ c.from_residual.ensures.1
+    residual c.from_residual.result OutOfMemory _ c.from_residual.ensures.1
     (create_memory g.W.World.opening c.args.pass.now c.args.pass.now c.args.keyspace c.args.free c.args.sources.now c.args.targets.now
-    c.in_err-chosen.field-0.0 c.in_err-chosen.ensures.err)
+    OutOfMemory refl)
 
 pub find_sources-requires-clause-parts : goal.find_sources-requires-clause-parts
 find_sources-requires-clause-parts g c = (

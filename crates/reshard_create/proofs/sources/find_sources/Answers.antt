@@ -1,8 +1,9 @@
-use Rattle.std.proofs.Common.{◌==◌, List, length, map, sym, ap, subst, ◌∙◌}
+use Rattle.std.proofs.Common.{◌==◌, List, length, map, sym, ap, subst, ◌∙◌, refl}
 use Rattle.std.proofs.lemmas.Bool.{eqb-true, false≢true}
 use Rattle.keyrange.specs.declared.KeyRange.{KeyRange}
 use Rattle.serving.specs.Partitions.{AreOf}
 use Rattle.follow.proofs.Moves.{at_some, at_not_some, if_some}
+use Rattle.vt_value.specs.declared.refusal.Refusal.TheVariants.{OutOfMemory}
 use Rattle.reshard_create.specs.Begun.{none_named}
 use Rattle.reshard_create.proofs.Unfit.{no_items, residual, create_memory, sources_are, not_all_there, one_away, taken_home, tested}
 use Rattle.reshard_create.proofs.sources.find_sources.Goals as goal
@@ -26,9 +27,9 @@ sources_of-requires-clause-home g c =
 
 pub returns-in_err-found-clause-err : goal.returns-in_err-found-clause-err
 returns-in_err-found-clause-err g c =
-    residual c.from_residual.result c.in_err-found.field-0.0 _ c.from_residual.ensures.1
+    residual c.from_residual.result OutOfMemory _ c.from_residual.ensures.1
     (λ free. create_memory g.W.World.opening c.args.pass.now c.sources_of.new.pass c.args.keyspace free c.args.sources.now c.args.targets.now
-    c.in_err-found.field-0.0 c.in_err-found.ensures.err)
+    OutOfMemory refl)
 
 pub returns-in_default-clause-err : goal.returns-in_default-clause-err
 returns-in_default-clause-err g c free =

@@ -1,4 +1,4 @@
-use Rattle.std.proofs.Common.{◌≡◌, ℕ, length, map, sym, ap, subst, ◌∙◌}
+use Rattle.std.proofs.Common.{◌≡◌, ℕ, length, map, sym, ap, subst, ◌∙◌, refl}
 use Rattle.std.specs.Prelude.{IfSome}
 use Rattle.std.specs.List.{AllByRecursion}
 use Rattle.std.proofs.lemmas.List.{length-map}
@@ -7,6 +7,7 @@ use Rattle.follow.proofs.Moves.{at_not_some, at_some}
 use Rattle.shard_run.specs.declared.ShardRecord.{ShardRecord}
 use Rattle.shard.specs.Seats.{seat_of}
 use Rattle.reshard_cutover.specs.TargetSources.{TargetWithSources}
+use Rattle.vt_value.specs.declared.refusal.Refusal.TheVariants.{OutOfMemory}
 use Rattle.reshard_reopen.specs.Rebuilt.{FoundView, AreFound, unlike}
 use Rattle.reshard_cutover.specs.Overlapping.{AreThose}
 use Rattle.reshard_reopen.specs.inner.Snapshots.{IsRebuiltTarget}
@@ -18,9 +19,8 @@ use Rattle.reshard_reopen.proofs.reopen.find_again.Goals as goal
 
 pub returns-in_err-both-clause-refused : goal.returns-in_err-both-clause-refused
 returns-in_err-both-clause-refused g c =
-    residual c.from_residual.result c.in_err-both.field-0.0 _ c.from_residual.ensures.1
-    (reopen_memory g.W.World.opening c.args.pass.now c.find_both.new.pass c.args.keyspace c.args.from.now c.args.into.now c.in_err-both.field-0.0
-    c.in_err-both.ensures.err)
+    residual c.from_residual.result OutOfMemory _ c.from_residual.ensures.1
+    (reopen_memory g.W.World.opening c.args.pass.now c.find_both.new.pass c.args.keyspace c.args.from.now c.args.into.now OutOfMemory refl)
 
 pub rebuild_workflow-requires-clause-sources : goal.rebuild_workflow-requires-clause-sources
 rebuild_workflow-requires-clause-sources g c =
@@ -40,9 +40,8 @@ rebuild_workflow-requires-clause-named g c =
 
 pub returns-in_err-again-clause-refused : goal.returns-in_err-again-clause-refused
 returns-in_err-again-clause-refused g c =
-    residual c.from_residual-in_err-again.result c.in_err-again.field-0.0 _ c.from_residual-in_err-again.ensures.1
-    (reopen_memory g.W.World.opening c.args.pass.now c.find_both.new.pass c.args.keyspace c.args.from.now c.args.into.now c.in_err-again.field-0.0
-    c.in_err-again.ensures.err)
+    residual c.from_residual-in_err-again.result OutOfMemory _ c.from_residual-in_err-again.ensures.1
+    (reopen_memory g.W.World.opening c.args.pass.now c.find_both.new.pass c.args.keyspace c.args.from.now c.args.into.now OutOfMemory refl)
 
 pub returns-in_default-clause-refused : goal.returns-in_default-clause-refused
 returns-in_default-clause-refused g c =

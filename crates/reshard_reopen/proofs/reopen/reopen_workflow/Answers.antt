@@ -1,6 +1,7 @@
-use Rattle.std.proofs.Common.{◌≤◌, length, map, sym, ap, subst, ◌∙◌}
+use Rattle.std.proofs.Common.{◌≤◌, length, map, sym, ap, subst, ◌∙◌, refl}
 use Rattle.std.proofs.lemmas.List.{length-map}
 use Rattle.reshard_create.proofs.Unfit.{residual}
+use Rattle.vt_value.specs.declared.refusal.Refusal.TheVariants.{OutOfMemory}
 use Rattle.reshard_reopen.proofs.Founds.{reopen_memory}
 use Rattle.reshard_reopen.proofs.Refits.{retired_within}
 use Rattle.reshard_reopen.proofs.reopen.reopen_workflow.Goals as goal
@@ -15,6 +16,5 @@ memory_of-requires-clause-few g c =
 
 pub returns-in_err-memory-clause-refused : goal.returns-in_err-memory-clause-refused
 returns-in_err-memory-clause-refused g c =
-    residual c.from_residual-in_err-memory.result c.in_err-memory.field-0.0 _ c.from_residual-in_err-memory.ensures.1
-    (reopen_memory g.W.World.opening c.args.pass.now c.find_again.new.pass c.args.keyspace c.args.from.now c.args.into.now c.in_err-memory.field-0.0
-    c.in_err-memory.ensures.err)
+    residual c.from_residual-in_err-memory.result OutOfMemory _ c.from_residual-in_err-memory.ensures.1
+    (reopen_memory g.W.World.opening c.args.pass.now c.find_again.new.pass c.args.keyspace c.args.from.now c.args.into.now OutOfMemory refl)

@@ -20,6 +20,5 @@ returns c =
       ok = more_ok c.put_definitions_end.result _ (after_definitions c.args.end c.args.status) _ _ _ _ _ defined shape c.put_definitions_end.ensures.ok;
       next = more_next c.put_definitions_end.result _ (after_definitions c.args.end c.args.status) _ _ _ _ defined shape c.put_definitions_end.ensures.next;
       err = last_err c.put_definitions_end.result _ _ _ _ _ defined c.put_definitions_end.ensures.err;
-      memory = c.put_definitions_end.ensures.memory;
       capacity = omega (arith, defined.capacity, c.put_definitions_end.ensures.capacity);
     }

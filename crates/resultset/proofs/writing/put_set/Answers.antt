@@ -17,6 +17,5 @@ returns c =
       ok = last_ok c.put_rows_end.result _ _ (after_rows c.args.end c.args.status) _ _ _ _ written shape c.put_rows_end.ensures.ok;
       next = last_next c.put_rows_end.result _ _ (after_rows c.args.end c.args.status) _ _ _ written shape c.put_rows_end.ensures.next;
       err = last_err c.put_rows_end.result _ _ _ _ _ written c.put_rows_end.ensures.err;
-      memory = c.put_rows_end.ensures.memory;
       capacity = omega (arith, written.capacity, c.put_rows_end.ensures.capacity);
     }

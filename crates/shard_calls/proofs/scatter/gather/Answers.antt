@@ -1,10 +1,8 @@
-use Rattle.std.proofs.Common.{refl, ap, sym, subst, map, reverse, length, arith, ◌∙◌, IfErr, ◌≡◌, Ok}
-use Rattle.std.specs.List.{AllByRecursion}
+use Rattle.std.proofs.Common.{refl, ap, sym, map, reverse, length, arith, ◌∙◌, ◌≡◌, Ok}
 use Rattle.std.specs.Vec.Iter.{into_iter_items}
 use Rattle.std.proofs.lemmas.List.{nil_from_length}
-use Rattle.vt_value.specs.declared.refusal.Refusal.TheVariants.{OutOfMemory}
 use Rattle.shard_calls.specs.inner.Scatter.{given_rows, given_read}
-use Rattle.shard_calls.proofs.Gathers.{begins_at, gone_at, joined_at, stalled_at, ends_at, next_all, map_twice}
+use Rattle.shard_calls.proofs.Gathers.{begins_at, gone_at, joined_at, stalled_at, ends_at, map_twice}
 use Rattle.shard_calls.proofs.scatter.gather.Goals as goal
 
 gives : (g : _) (c : goal.After-into_iter-one-iterator g) → into_iter_items c.into_iter-one-iterator.result ≡ c.args.done.items
@@ -16,16 +14,11 @@ loop-one-init g c = record {
       begins_at _ _ _ (into_iter_items c.into_iter-one-iterator.result) c.args.done.items _ _ (gives g c)
       (ap (map (λ r. reverse r.reversed)) c.new.ensures.items) c.new-2.ensures c.requires.legal;
   long = c.into_iter-one-iterator.ensures.into_iter_gives.1 ∙ c.args.done.ok.0 ∙ ap length (sym (gives g c));
-  refused = subst (AllByRecursion (λ d. IfErr d.outcome (λ e. e ≡ OutOfMemory))) (sym (gives g c)) c.requires.refused;
 }
 
 pub returns-in-Err-clause-gone : goal.returns-in-Err-clause-gone
 returns-in-Err-clause-gone g c =
     gone_at _ _ _ _ _ _ _ _ _ _ _ c.in-Some.ensures.steps.0 c.loop-one.invariant.gathers c.join.ensures.seen c.join.ensures.mine
-
-pub returns-in-Err-clause-err : goal.returns-in-Err-clause-err
-returns-in-Err-clause-err g c =
-    let why = (next_all _ _ _ _ c.in-Some.ensures.steps.0 c.loop-one.invariant.refused).0 in rw c.in-Err.is at why
 
 pub returns-in_err-push-in-Ok-Rows-clause-gone : goal.returns-in_err-push-in-Ok-Rows-clause-gone
 returns-in_err-push-in-Ok-Rows-clause-gone g c =
@@ -42,7 +35,6 @@ loop-one-preserved g c = record {
       let gone = c.in-Some.ensures.steps.1 in
       let short = ap length c.in-Some.ensures.steps.0 in
       omega (arith, was, gone, short);
-  refused = (next_all _ _ _ _ c.in-Some.ensures.steps.0 c.loop-one.invariant.refused).1;
 }
 
 pub returns-clause-gone : goal.returns-clause-gone

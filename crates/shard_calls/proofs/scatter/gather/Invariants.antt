@@ -1,7 +1,5 @@
-use Rattle.std.proofs.Common.{map, reverse, length, IfErr, ◌≡◌}
-use Rattle.std.specs.List.{AllByRecursion}
+use Rattle.std.proofs.Common.{map, reverse, length, ◌≡◌}
 use Rattle.std.specs.Vec.Iter.{into_iter_items, into_iter_len}
-use Rattle.vt_value.specs.declared.refusal.Refusal.TheVariants.{OutOfMemory}
 use Rattle.shard_calls.proofs.Gathers.{Gathers}
 use Rattle.shard_calls.proofs.scatter.gather.Given as goal
 
@@ -13,5 +11,4 @@ invariant-loop-one g l =
           (map (λ d. record { slot = d.slot; pass = d.pass; outcome = d.outcome }) (into_iter_items l.one-iterator))
           (map (λ d. record { slot = d.slot; pass = d.pass; outcome = d.outcome }) l.fn.done.items);
       long : into_iter_len l.one-iterator ≡ length (into_iter_items l.one-iterator);
-      refused : AllByRecursion (λ d. IfErr d.outcome (λ e. e ≡ OutOfMemory)) (into_iter_items l.one-iterator);
     }

@@ -14,7 +14,9 @@ map_vec-requires-send-J g c κs within = param_send 1 _ (arg_send _ no (job.the_
 pub map_vec-requires-send-X : goal.map_vec-requires-send-X
 map_vec-requires-send-X g c κs within = param_send 2 _ (arg_send _ no (done.the_row (param 1 g.row.W) (param 2 g.row.J) g.W.World g.J.Naming) (done_send (param 1 g.row.W) (param 2 g.row.J) g.W.World g.J.Naming))
 
-pub returns-clause-ok : goal.returns-clause-ok
-returns-clause-ok g c =
-    pairs _ c.args.jobs.items c.in_ok-done.done.items (sym c.in_ok-done.done.ok.0 ∙ c.in_ok-done.ensures.len ∙ c.args.jobs.ok.0)
-    (λ i d e h. let k = (c.in_ok-done.ensures.each i e h).1 in rw (k.job_is d) k.call.met)
+pub returns : goal.returns
+returns g c =
+    record {
+      ok = pairs _ c.args.jobs.items c.in_ok-done.done.items (sym c.in_ok-done.done.ok.0 ∙ c.in_ok-done.ensures.len ∙ c.args.jobs.ok.0)
+          (λ i d e h. let k = (c.in_ok-done.ensures.each i e h).1 in rw (k.job_is d) k.call.met);
+    }

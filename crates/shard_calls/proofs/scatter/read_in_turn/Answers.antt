@@ -29,8 +29,10 @@ loop-job-preserved g c = record {
       omega (arith, was, gone, short);
 }
 
-pub returns-clause-ok : goal.returns-clause-ok
-returns-clause-ok g c =
-    let none = nil_from_length (into_iter_items c.loop-job.job-iterator) (sym c.loop-job.invariant.long ∙ c.in-None.ensures.steps.0) in
-    let all = sym (append-nil c.loop-job.invariant.read.0) ∙ ap (λ l. c.loop-job.invariant.read.0 ++ l) (sym none) ∙ c.loop-job.invariant.read.1 in
-    rw (sym all) c.loop-job.invariant.read.2
+pub returns : goal.returns
+returns g c =
+    record {
+      ok = (let none = nil_from_length (into_iter_items c.loop-job.job-iterator) (sym c.loop-job.invariant.long ∙ c.in-None.ensures.steps.0) in
+          let all = sym (append-nil c.loop-job.invariant.read.0) ∙ ap (λ l. c.loop-job.invariant.read.0 ++ l) (sym none) ∙ c.loop-job.invariant.read.1 in
+          rw (sym all) c.loop-job.invariant.read.2);
+    }

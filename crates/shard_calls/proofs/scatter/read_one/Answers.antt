@@ -14,5 +14,4 @@ returns g c =
       in_place = is.3;
       looked = is.4;
       read = rw c.get.ensures at is.5;
-      refused = c.read-outcome.ensures.err;
     }

@@ -20,9 +20,11 @@ loop-job-preserved-then-len-most g c = record {
       omega (arith, was, gone, short);
 }
 
-pub returns-clause-ok : goal.returns-clause-ok
-returns-clause-ok g c =
+pub returns : goal.returns
+returns g c =
     let none = nil_from_length (into_iter_items c.loop-job.job-iterator) (sym c.loop-job.invariant.long ∙ c.in-None.ensures.steps.0) in
     let all = all_read c.loop-job.invariant.read.0 c.loop-job.next.items (into_iter_items c.loop-job.job-iterator) _ c.loop-job.invariant.read.1 none in
-    rw (sym all) (rw c.in_ok-append-2.ensures.items (pairs_joined _ c.loop-job.invariant.read.0 c.loop-job.next.items c.loop-job.done.items
-    c.in_ok-read_at_once-2.field-0.items c.loop-job.invariant.read.2 c.in_ok-read_at_once-2.ensures.ok))
+    record {
+      ok = rw (sym all) (rw c.in_ok-append-2.ensures.items (pairs_joined _ c.loop-job.invariant.read.0 c.loop-job.next.items c.loop-job.done.items
+          c.in_ok-read_at_once-2.field-0.items c.loop-job.invariant.read.2 c.in_ok-read_at_once-2.ensures.ok));
+    }

@@ -8,7 +8,7 @@ use Rattle.shard_calls.proofs.transactions.read_at.Goals as goal
 
 pub returns-in_err-ordinals-clause-err : goal.returns-in_err-ordinals-clause-err
 returns-in_err-ordinals-clause-err g c =
-    let p = err_from_is_err_and c.from_residual.result c.from_residual.ensures.1 in rw (p.1, p.2, c.in_err-ordinals.ensures.err) w.no_memory
+    let p = err_from_is_err_and c.from_residual.result c.from_residual.ensures.1 in rw (p.1, p.2) w.no_memory
 
 pub returns-in-Ok-clause-ok : goal.returns-in-Ok-clause-ok
 returns-in-Ok-clause-ok g c =

@@ -4,6 +4,6 @@ use Rattle.vt_value.specs.Values.{Row}
 use Rattle.shard_contents.proofs.CopySteps.{last_get}
 use Rattle.shard_contents.proofs.copying.last_row.Goals as goal
 
-pub returns-clause-ok : goal.returns-clause-ok
-returns-clause-ok c =
-    subst (λ (o : Option Row). IfOk c.copied.result (λ r. r ≡ o)) (c.last.ensures.value ∙ last_get c.args.rows.now) c.copied.ensures.ok
+pub returns : goal.returns
+returns c =
+    record { ok = subst (λ (o : Option Row). IfOk c.copied.result (λ r. r ≡ o)) (c.last.ensures.value ∙ last_get c.args.rows.now) c.copied.ensures.ok }

@@ -17,6 +17,6 @@ loop-done-preserved c db there was = elim c.if-table.branch [
       there (λ same. w.if-table.false (c.table.ensures ∙ same)) (c.loop-done.invariant db there was))
 ]
 
-pub returns-clause-ok : goal.returns-clause-ok
-returns-clause-ok c db there was =
-    changes_done c.args.changes.now c.loop-done.done-index db c.args.table c.loop-done.rows.rows c.loop-done-test.false (c.loop-done.invariant db there was)
+pub returns : goal.returns
+returns c =
+    record { ok = (λ db there was. changes_done c.args.changes.now c.loop-done.done-index db c.args.table c.loop-done.rows.rows c.loop-done-test.false (c.loop-done.invariant db there was)) }

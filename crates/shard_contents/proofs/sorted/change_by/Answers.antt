@@ -16,6 +16,6 @@ loop-entry-preserved c db there was =
     (subst (λ (k : ℕ). c.args.table < k) (sym (length-all_applied (changes_by (take c.loop-entry.entry-index c.args.entries.now)) db)) there)
     (c.loop-entry.invariant db there was))
 
-pub returns-clause-ok : goal.returns-clause-ok
-returns-clause-ok c db there was =
-    entries_done c.args.entries.now c.loop-entry.entry-index db c.args.table c.loop-entry.rows.rows c.loop-entry-test.false (c.loop-entry.invariant db there was)
+pub returns : goal.returns
+returns c =
+    record { ok = (λ db there was. entries_done c.args.entries.now c.loop-entry.entry-index db c.args.table c.loop-entry.rows.rows c.loop-entry-test.false (c.loop-entry.invariant db there was)) }

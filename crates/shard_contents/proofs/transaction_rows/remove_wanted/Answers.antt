@@ -3,6 +3,6 @@ use Rattle.shard_contents.specs.inner.Stores.{is_selected}
 use Rattle.shard_contents.proofs.Wanted.{unwanted_removed}
 use Rattle.shard_contents.proofs.transaction_rows.remove_wanted.Goals as goal
 
-pub returns-clause-ok : goal.returns-clause-ok
-returns-clause-ok c =
-    unwanted_removed (is_selected c.args.wanted) c.args.row.now c.args.rows.now.rows (sym c.wants.ensures ∙ c.if-wants.false)
+pub returns : goal.returns
+returns c =
+    record { ok = unwanted_removed (is_selected c.args.wanted) c.args.row.now c.args.rows.now.rows (sym c.wants.ensures ∙ c.if-wants.false) }

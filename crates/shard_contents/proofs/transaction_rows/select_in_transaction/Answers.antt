@@ -18,8 +18,12 @@ select-requires c =
           subst CanBeSummed same (c.requires.summed aggregated (subst (λ (rows : List Row). length rows ≤ 2 ^ 60) (sym same) c.requires.few));
     }
 
-pub returns-then-not-changes_source-clause-ok : goal.returns-then-not-changes_source-clause-ok
-returns-then-not-changes_source-clause-ok c =
-    let db = c.args.store.now.rows in
-    subst (λ (rows : List Row). IfOk c.select.result (IsAnswer c.args.query.now rows))
-    (sym (sources_kept c.args.changes.now db c.args.query.now (sym c.changes_source.ensures ∙ c.if-not-changes_source.true))) c.select.ensures.ok
+pub returns-then-not-changes_source : goal.returns-then-not-changes_source
+returns-then-not-changes_source c =
+    record {
+      ok = (
+          let db = c.args.store.now.rows in
+          subst (λ (rows : List Row). IfOk c.select.result (IsAnswer c.args.query.now rows))
+          (sym (sources_kept c.args.changes.now db c.args.query.now (sym c.changes_source.ensures ∙ c.if-not-changes_source.true))) c.select.ensures.ok
+          );
+    }

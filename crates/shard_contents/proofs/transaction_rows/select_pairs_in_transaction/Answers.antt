@@ -28,10 +28,14 @@ select_joined-requires c κs =
       λ aggregated few. subst CanBeSummed (sym pairs) (c.requires.summed aggregated (subst (λ (rows : List Row). length rows ≤ 2 ^ 60) pairs few)),
     )
 
-pub returns-clause-ok : goal.returns-clause-ok
-returns-clause-ok c =
-    let db = all_applied c.args.changes.now c.args.store.now.rows in
-    let firsts = same c.in_ok-firsts.firsts.rows (rows_of db c.args.query.now.table) c.all.result c.all.ensures c.in_ok-firsts.ensures.ok in
-    let seconds = same c.in_ok-seconds.seconds.rows (rows_of db c.args.join.table) c.all-2.result c.all-2.ensures c.in_ok-seconds.ensures.ok in
-    let pairs = same_pairs c.args.join c.all.result c.all-2.result (rows_of db c.args.query.now.table) (rows_of db c.args.join.table) firsts seconds in
-    subst (λ (rows : List Row). IfOk c.select_joined.result (IsAnswer c.args.query.now rows)) pairs c.select_joined.ensures.ok
+pub returns : goal.returns
+returns c =
+    record {
+      ok = (
+          let db = all_applied c.args.changes.now c.args.store.now.rows in
+          let firsts = same c.in_ok-firsts.firsts.rows (rows_of db c.args.query.now.table) c.all.result c.all.ensures c.in_ok-firsts.ensures.ok in
+          let seconds = same c.in_ok-seconds.seconds.rows (rows_of db c.args.join.table) c.all-2.result c.all-2.ensures c.in_ok-seconds.ensures.ok in
+          let pairs = same_pairs c.args.join c.all.result c.all-2.result (rows_of db c.args.query.now.table) (rows_of db c.args.join.table) firsts seconds in
+          subst (λ (rows : List Row). IfOk c.select_joined.result (IsAnswer c.args.query.now rows)) pairs c.select_joined.ensures.ok
+          );
+    }

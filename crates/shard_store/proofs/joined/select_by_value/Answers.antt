@@ -16,15 +16,19 @@ select_groups-requires g c κs =
           (c.requires.summed (sym c.is_aggregated.ensures ∙ c.if-is_aggregated.true) (subst (λ (l : List Row). length l ≤ 2 ^ 60) all few)),
     )
 
-pub returns-then-is_aggregated-clause-ok : goal.returns-then-is_aggregated-clause-ok
-returns-then-is_aggregated-clause-ok g c =
-    subst (λ (l : List Row). IfOk c.select_groups.result (IsAnswer c.args.query.now l))
-    (all_pass c.args.join c.new.result.items (g.S.RowSource.to_come c.args.firsts) c.args.seconds.now.rows _ c.new-pairs.ensures c.new.ensures.items)
-    c.select_groups.ensures.ok
+pub returns-then-is_aggregated : goal.returns-then-is_aggregated
+returns-then-is_aggregated g c =
+    record {
+      ok = subst (λ (l : List Row). IfOk c.select_groups.result (IsAnswer c.args.query.now l))
+          (all_pass c.args.join c.new.result.items (g.S.RowSource.to_come c.args.firsts) c.args.seconds.now.rows _ c.new-pairs.ensures c.new.ensures.items)
+          c.select_groups.ensures.ok;
+    }
 
-pub returns-clause-ok : goal.returns-clause-ok
-returns-clause-ok g c =
-    IfOk-weaker c.select_pairs.result _ _
-    (λ list answer. answer_of_firsts c.args.query.now c.args.join (passes c.in_ok-own.own.items) (g.S.RowSource.to_come c.args.firsts) c.args.seconds.now.rows _ list
-    c.new-2.ensures (λ a b kept. c.in_ok-own.ensures.ok a b kept) answer)
-    c.select_pairs.ensures.ok
+pub returns : goal.returns
+returns g c =
+    record {
+      ok = IfOk-weaker c.select_pairs.result _ _
+          (λ list answer. answer_of_firsts c.args.query.now c.args.join (passes c.in_ok-own.own.items) (g.S.RowSource.to_come c.args.firsts) c.args.seconds.now.rows _ list
+          c.new-2.ensures (λ a b kept. c.in_ok-own.ensures.ok a b kept) answer)
+          c.select_pairs.ensures.ok;
+    }

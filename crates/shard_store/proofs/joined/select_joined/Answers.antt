@@ -19,12 +19,14 @@ select_by_value-requires g c κs = (
       summed_permuted (pairs_of j firsts found) (pairs_of j firsts seconds) same (c.requires.summed aggregated (omega (arith, n, few))),
 )
 
-pub returns-clause-ok : goal.returns-clause-ok
-returns-clause-ok g c =
-    let j = c.args.join in
-    let firsts = g.S.RowSource.to_come c.args.firsts in
-    let seconds = g.T.RowSource.to_come c.args.seconds in
-    let found = c.in_ok-seconds.seconds.rows in
-    let same = seconds_permuted j firsts found seconds c.in_ok-seconds.ensures.rows in
-    IfOk-weaker c.select_by_value.result _ _ (λ list. same_answers c.args.query.now (pairs_of j firsts found) (pairs_of j firsts seconds) list same)
-    c.select_by_value.ensures.ok
+pub returns : goal.returns
+returns g c =
+    record {
+      ok = (let j = c.args.join in
+          let firsts = g.S.RowSource.to_come c.args.firsts in
+          let seconds = g.T.RowSource.to_come c.args.seconds in
+          let found = c.in_ok-seconds.seconds.rows in
+          let same = seconds_permuted j firsts found seconds c.in_ok-seconds.ensures.rows in
+          IfOk-weaker c.select_by_value.result _ _ (λ list. same_answers c.args.query.now (pairs_of j firsts found) (pairs_of j firsts seconds) list same)
+          c.select_by_value.ensures.ok);
+    }

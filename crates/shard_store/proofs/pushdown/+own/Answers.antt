@@ -8,19 +8,19 @@ use Rattle.shard_store.proofs.KeptRows.{one_true}
 use Rattle.shard_store.proofs.OwnConjuncts.{all_members, passes_more, ok_weaker}
 use Rattle.shard_store.proofs.pushdown.+own.Goals as goal
 
-pub push_own-returns-in-And-clause-ok : goal.push_own-returns-in-And-clause-ok
-push_own-returns-in-And-clause-ok t c =
-    ok_weaker c.push_own_of_each.result
-    (λ h first second p e.
-    h first second p (all_members (padded_row c.args.width first ++ second) c.args.condition.now c.in-And.members c.as_slice.result.now c.in-And.is c.as_slice.ensures e))
-    c.push_own_of_each.ensures.ok
+pub push_own-returns-in-And : goal.push_own-returns-in-And
+push_own-returns-in-And t c = record {
+  ok = ok_weaker c.push_own_of_each.result
+      (λ h first second p e.
+      h first second p (all_members (padded_row c.args.width first ++ second) c.args.condition.now c.in-And.members c.as_slice.result.now c.in-And.is c.as_slice.ensures e))
+      c.push_own_of_each.ensures.ok;
+}
 
 pub push_own-returns-in_ok-push : goal.push_own-returns-in_ok-push
 push_own-returns-in_ok-push t c = record {
   ok = λ first second p e.
       subst (λ (own : List (Bor (Condition ℕ))). passes own first ≡ true) (sym c.in_ok-push.ensures.items)
       (passes_more c.args.own.now.items c.args.condition first p (ap is_true (sym (c.is_below.ensures c.if-is_below.true first second)) ∙ e));
-  err = tt;
 }
 
 pub push_own_of_each-loop-member-preserved : goal.push_own_of_each-loop-member-preserved

@@ -3,6 +3,8 @@ use Rattle.sql_tree.specs.declared.Condition.{Condition}
 use Rattle.shard_store.specs.inner.Joined.{passes}
 use Rattle.shard_store.proofs.pushdown.conjuncts_of.Goals as goal
 
-pub returns-clause-ok : goal.returns-clause-ok
-returns-clause-ok c = λ first second e.
-    c.in_ok-push_own.ensures.ok first second (subst (λ (own : List (Bor (Condition ℕ))). passes own first ≡ true) (sym c.new-own.ensures.items) refl) e
+pub returns : goal.returns
+returns c = record {
+  ok = (λ first second e.
+      c.in_ok-push_own.ensures.ok first second (subst (λ (own : List (Bor (Condition ℕ))). passes own first ≡ true) (sym c.new-own.ensures.items) refl) e);
+}

@@ -5,8 +5,10 @@ use Rattle.sql_tree.specs.declared.Condition.{Condition}
 use Rattle.sql_eval.specs.Conditions.{is_kept}
 use Rattle.shard_store.proofs.pushdown.own_conjuncts.Goals as goal
 
-pub returns-in-Some-clause-ok : goal.returns-in-Some-clause-ok
-returns-in-Some-clause-ok c =
-    IfOk-weaker c.conjuncts_of.result _ _
-    (λ own h first second e. h first second (subst (λ (o : Option (Condition ℕ)). is_kept o (padded_row c.args.width first ++ second) ≡ true) c.in-Some.is e))
-    c.conjuncts_of.ensures.ok
+pub returns-in-Some : goal.returns-in-Some
+returns-in-Some c =
+    record {
+      ok = IfOk-weaker c.conjuncts_of.result _ _
+          (λ own h first second e. h first second (subst (λ (o : Option (Condition ℕ)). is_kept o (padded_row c.args.width first ++ second) ≡ true) c.in-Some.is e))
+          c.conjuncts_of.ensures.ok;
+    }

@@ -6,7 +6,9 @@ use Rattle.sql_eval.specs.Conditions.{operand_value}
 use Rattle.sql_eval.proofs.Members.{true_in}
 use Rattle.sql_eval.proofs.filters.among.Goals as goal
 
-pub returns-in-Ok-clause-ok : goal.returns-in-Ok-clause-ok
-returns-in-Ok-clause-ok c row =
-    let v = operand_value row c.args.operand.now in
-    sym (true_in v c.args.members.now ∙ list_any-IsPermutation (λ m. is_true (compare Eq v m)) c.args.members.now c.in-Ok.sorted c.in-Ok.ensures.ok)
+pub returns-in-Ok : goal.returns-in-Ok
+returns-in-Ok c =
+    record {
+      ok = (λ row. let v = operand_value row c.args.operand.now in
+          sym (true_in v c.args.members.now ∙ list_any-IsPermutation (λ m. is_true (compare Eq v m)) c.args.members.now c.in-Ok.sorted c.in-Ok.ensures.ok));
+    }

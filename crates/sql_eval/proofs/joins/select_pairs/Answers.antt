@@ -6,11 +6,13 @@ use Rattle.sql_eval.specs.Grouping.{shown_ordinal, IsSortedSlice}
 use Rattle.sql_eval.proofs.AnswerLemmas.{answered}
 use Rattle.sql_eval.proofs.joins.select_pairs.Goals as goal
 
-pub returns-clause-ok : goal.returns-clause-ok
-returns-clause-ok g c =
-    let q = c.args.query.now in
-    let rows = g.S.PairSource.to_come c.args.pairs in
-    let ordinals = c.in_ok-ordinals.ensures.ok ∙ ap (map shown_ordinal) c.as_slice.ensures in
-    answered q rows (filter (is_kept q.filter) rows) c.shown_pairs.result c.requires.plain refl
-    (subst (λ (ps : List ℕ). IfOk c.shown_pairs.result (IsSortedSlice q.order_by q.limit ps (filter (is_kept q.filter) rows))) ordinals
-    (subst (λ (keys : List (Key ℕ)). IfOk c.shown_pairs.result (IsSortedSlice keys q.limit c.in_ok-ordinals.ordinals (filter (is_kept q.filter) rows))) c.as_slice-2.ensures c.shown_pairs.ensures.ok))
+pub returns : goal.returns
+returns g c =
+    record {
+      ok = (let q = c.args.query.now in
+          let rows = g.S.PairSource.to_come c.args.pairs in
+          let ordinals = c.in_ok-ordinals.ensures.ok ∙ ap (map shown_ordinal) c.as_slice.ensures in
+          answered q rows (filter (is_kept q.filter) rows) c.shown_pairs.result c.requires.plain refl
+          (subst (λ (ps : List ℕ). IfOk c.shown_pairs.result (IsSortedSlice q.order_by q.limit ps (filter (is_kept q.filter) rows))) ordinals
+          (subst (λ (keys : List (Key ℕ)). IfOk c.shown_pairs.result (IsSortedSlice keys q.limit c.in_ok-ordinals.ordinals (filter (is_kept q.filter) rows))) c.as_slice-2.ensures c.shown_pairs.ensures.ok)));
+    }

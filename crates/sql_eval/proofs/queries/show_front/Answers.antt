@@ -11,19 +11,21 @@ use Rattle.sql_eval.proofs.LentRows.{no_condition}
 use Rattle.sql_eval.proofs.FrontRows.{sliced_front}
 use Rattle.sql_eval.proofs.queries.show_front.Goals as goal
 
-pub returns-clause-ok : goal.returns-clause-ok
-returns-clause-ok g c =
+pub returns : goal.returns
+returns g c =
     let rows = c.in_ok-rows.rows in
     let front = c.in_ok-rows.ensures.ok in
     let limit = c.args.query.now.limit in
-    IfOk-weaker c.shown.result _ _
-    (λ list is. (
-      front.0,
-      front.1,
-      subst (λ (keys : List (Key ℕ)). IsSorted (row_cmp keys) front.0) c.as_slice.ensures front.2,
-      is ∙ ap (λ (l : List (Item ℕ)). map (columns_of (map shown_ordinal l)) (sliced limit (filter (is_kept c.plain-all.result) rows))) c.as_slice-2.ensures
-          ∙ ap (λ f. map (columns_of (map shown_ordinal c.args.query.now.items)) (sliced limit (filter (is_kept f) rows))) c.plain-all.ensures
-          ∙ ap (λ l. map (columns_of (map shown_ordinal c.args.query.now.items)) (sliced limit l)) (no_condition rows ∙ front.3)
-          ∙ ap (map (columns_of (map shown_ordinal c.args.query.now.items))) (sliced_front limit c.args.most front.0 c.requires),
-    ))
-    c.shown.ensures.ok
+    record {
+      ok = IfOk-weaker c.shown.result _ _
+          (λ list is. (
+            front.0,
+            front.1,
+            subst (λ (keys : List (Key ℕ)). IsSorted (row_cmp keys) front.0) c.as_slice.ensures front.2,
+            is ∙ ap (λ (l : List (Item ℕ)). map (columns_of (map shown_ordinal l)) (sliced limit (filter (is_kept c.plain-all.result) rows))) c.as_slice-2.ensures
+                ∙ ap (λ f. map (columns_of (map shown_ordinal c.args.query.now.items)) (sliced limit (filter (is_kept f) rows))) c.plain-all.ensures
+                ∙ ap (λ l. map (columns_of (map shown_ordinal c.args.query.now.items)) (sliced limit l)) (no_condition rows ∙ front.3)
+                ∙ ap (map (columns_of (map shown_ordinal c.args.query.now.items))) (sliced_front limit c.args.most front.0 c.requires),
+          ))
+          c.shown.ensures.ok;
+    }

@@ -1,14 +1,16 @@
 use Rattle.std.proofs.Common.{append_assoc}
 use Rattle.sql_tree.proofs.printing.put_insert.Goals as goal
 
-pub returns-clause-ok : goal.returns-clause-ok
-returns-clause-ok c =
-    rw (
-      c.in_ok-put_commas.ensures.ok,
-      c.in_ok-put-2.ensures.ok,
-      c.in_ok-put_columns.ensures.ok,
-      c.in_ok-put_name.ensures.ok,
-      c.in_ok-put.ensures.ok,
-      c.as_slice.ensures,
-      c.as_slice-2.ensures,
-    ) (simp append_assoc)
+pub returns : goal.returns
+returns c =
+    record {
+      ok = rw (
+        c.in_ok-put_commas.ensures.ok,
+        c.in_ok-put-2.ensures.ok,
+        c.in_ok-put_columns.ensures.ok,
+        c.in_ok-put_name.ensures.ok,
+        c.in_ok-put.ensures.ok,
+        c.as_slice.ensures,
+        c.as_slice-2.ensures,
+      ) (simp append_assoc);
+    }

@@ -1,4 +1,5 @@
-use Rattle.std.proofs.lemmas.Result.{IfErr-weaker, err_from_is_err_and}
+use Rattle.std.proofs.Common.{refl}
+use Rattle.std.proofs.lemmas.Result.{err_from_is_err_and}
 use Rattle.vtgate_lines.proofs.PlanRefusals.{from_memory, from_parse, from_resolve}
 use Rattle.vtgate_lines.proofs.plans.plan_line.Goals as goal
 
@@ -12,6 +13,7 @@ returns-in_err-typed-clause-err c =
     let p = err_from_is_err_and c.from_residual-in_err-typed.result c.from_residual-in_err-typed.ensures.1 in
     rw (p.1, p.2) (from_resolve _ _ _ c.in_err-typed.field-0.0 c.in_ok-statement.ensures.found c.in_err-typed.ensures.err)
 
-pub returns-clause-err : goal.returns-clause-err
-returns-clause-err c =
-    IfErr-weaker c.typed_line.result _ _ (λ e is. from_memory c.args.schema.now c.args.sql.now e is) c.typed_line.ensures.err
+pub returns-in_err-typed_line-clause-err : goal.returns-in_err-typed_line-clause-err
+returns-in_err-typed_line-clause-err c =
+    let p = err_from_is_err_and c.from_residual-in_err-typed_line.result c.from_residual-in_err-typed_line.ensures.1 in
+    rw (p.1, p.2) (from_memory c.args.schema.now c.args.sql.now _ refl)

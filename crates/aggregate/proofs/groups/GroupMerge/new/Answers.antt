@@ -20,11 +20,13 @@ loop-parts-preserved g c =
       c.in_ok-add.ensures.ok rows c.loop-parts.invariant.2,
     )
 
-pub returns-clause-ok : goal.returns-clause-ok
-returns-clause-ok g c =
-    let rows = c.loop-parts.invariant.0 in
-    let none = rw c.in_default.is at c.in_ok-row.ensures.row in
-    let all = sym (append-nil rows) ∙ ap (λ rest. rows ++ rest) (sym none.0) ∙ c.loop-parts.invariant.1 in
-    c.from_vec.ensures ∙ c.in_ok-into_rows.ensures.ok
-    ∙ rows_given c.args.aggregates.now c.args.width rows (key_values c.loop-parts.groups) (part_lists c.loop-parts.groups) c.loop-parts.invariant.2
-    ∙ ap (joined_rows c.args.aggregates.now c.args.width) all
+pub returns : goal.returns
+returns g c =
+    record {
+      ok = (let rows = c.loop-parts.invariant.0 in
+          let none = rw c.in_default.is at c.in_ok-row.ensures.row in
+          let all = sym (append-nil rows) ∙ ap (λ rest. rows ++ rest) (sym none.0) ∙ c.loop-parts.invariant.1 in
+          c.from_vec.ensures ∙ c.in_ok-into_rows.ensures.ok
+          ∙ rows_given c.args.aggregates.now c.args.width rows (key_values c.loop-parts.groups) (part_lists c.loop-parts.groups) c.loop-parts.invariant.2
+          ∙ ap (joined_rows c.args.aggregates.now c.args.width) all);
+    }

@@ -26,5 +26,5 @@ loop-key-preserved c =
       same,
     )
 
-pub returns-clause-ok : goal.returns-clause-ok
-returns-clause-ok c = c.reverse.ensures.items ∙ all_made c.loop-key.keys.keys (map (λ p. p.items) c.loop-key.parts.items) c.loop-key.rows.items _ (λ more. let none = c.in_default.ensures.found.1 more in cc) c.loop-key.invariant.0
+pub returns : goal.returns
+returns c = record { ok = c.reverse.ensures.items ∙ all_made c.loop-key.keys.keys (map (λ p. p.items) c.loop-key.parts.items) c.loop-key.rows.items _ (λ more. let none = c.in_default.ensures.found.1 more in cc) c.loop-key.invariant.0 }

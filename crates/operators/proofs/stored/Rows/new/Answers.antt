@@ -6,5 +6,5 @@ one_way [] h = refl
 one_way (row ∷ []) h = refl
 one_way (row ∷ other ∷ rows) h = absurd (omega (arith, h))
 
-pub returns-then-len-lt2-clause-ok : goal.returns-then-len-lt2-clause-ok
-returns-then-len-lt2-clause-ok c = one_way c.args.rows (rw (← c.len.ensures) c.if-len-lt2.true)
+pub returns-then-len-lt2 : goal.returns-then-len-lt2
+returns-then-len-lt2 c = record { ok = one_way c.args.rows (rw (← c.len.ensures) c.if-len-lt2.true) }

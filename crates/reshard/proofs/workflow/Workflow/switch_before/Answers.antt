@@ -3,7 +3,7 @@ use Rattle.std.proofs.lemmas.List.{length-map}
 use Rattle.std.specs.Prelude.{IfOk, IfErr, MatchOption, slice_get}
 use Rattle.journal.proofs.Fronts.{prefix_self}
 use Rattle.vt_value.specs.declared.refusal.Refusal.{Refusal}
-use Rattle.vt_value.specs.declared.refusal.Refusal.TheVariants.{ShardFull}
+use Rattle.vt_value.specs.declared.refusal.Refusal.TheVariants.{OutOfMemory, ShardFull}
 use Rattle.follow.specs.declared.steps.Step.{Step}
 use Rattle.reshard_cutover.specs.declared.fault.ReshardFault.TheVariants.{Refused}
 use Rattle.reshard_cutover.specs.FirstMoves.{HasMovedFirst, IsMoveRefusal, IsOneStepFirst}
@@ -24,9 +24,8 @@ use Rattle.reshard.proofs.workflow.Workflow.switch_before.Goals as goal
 
 pub returns-in_err-prepare-clause-refused : goal.returns-in_err-prepare-clause-refused
 returns-in_err-prepare-clause-refused g c =
-    residual_same c.from_residual.result c.in_err-prepare.field-0.0 _ c.from_residual.ensures.1
-    (memory_refused g.W.World.opening g.W.World.limits c.args.self.now.sources c.args.self.now.targets c.args.pass.now c.args.pass.now c.in_err-prepare.field-0.0
-    c.in_err-prepare.ensures.err)
+    residual_same c.from_residual.result OutOfMemory _ c.from_residual.ensures.1
+    (memory_refused g.W.World.opening g.W.World.limits c.args.self.now.sources c.args.self.now.targets c.args.pass.now c.args.pass.now OutOfMemory refl)
 
 pub returns-in_err-freeze_next-clause-refused : goal.returns-in_err-freeze_next-clause-refused
 returns-in_err-freeze_next-clause-refused g c =

@@ -12,7 +12,7 @@ use Rattle.shard_calls.proofs.Gathers.{stays}
 use Rattle.route_engine.proofs.engine.Engine.rows_by_plan.Goals as goal
 
 pub returns-in-Err-clause-err : goal.returns-in-Err-clause-err
-returns-in-Err-clause-err g c = rw c.in-Err.ensures.err (a.no_memory ([], stays _ _ c.requires.legal))
+returns-in-Err-clause-err g c = a.no_memory ([], stays _ _ c.requires.legal)
 
 pub answer-answered-requires-clause-keyspace : goal.answer-answered-requires-clause-keyspace
 answer-answered-requires-clause-keyspace g c κs within =

@@ -41,4 +41,4 @@ returns-in-Ok-None-clause-err g c =
     (λ e is. refused_after g.W.World.opening c.args.pass.now c.answer_point.new.pass c.rows_by_plan.new.pass c.args.query e c.answer_point.ensures.gone is) c.rows_by_plan.ensures.err
 
 pub returns-in-Err-clause-err : goal.returns-in-Err-clause-err
-returns-in-Err-clause-err g c = rw c.in-Err.ensures.err (a.no_memory c.answer_point.ensures.gone)
+returns-in-Err-clause-err g c = a.no_memory c.answer_point.ensures.gone

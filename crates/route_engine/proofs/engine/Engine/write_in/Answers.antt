@@ -23,5 +23,5 @@ count_by-count-requires-clause-keyspace g c κs within =
 
 pub returns-in-Err-clause-err : goal.returns-in-Err-clause-err
 returns-in-Err-clause-err g c =
-    rw c.in-Err.ensures.err (d.without_memory g.W.World.opening c.requires.opens c.requires.formed g.W.World.limits c.args.pass.now c.requires.legal c.requires.session c.requires.above
-    (record { bound = c.args.bound.now; pending = c.args.pending.now }) (typed.Write c.args.write))
+    d.without_memory g.W.World.opening c.requires.opens c.requires.formed g.W.World.limits c.args.pass.now c.requires.legal c.requires.session c.requires.above
+    (record { bound = c.args.bound.now; pending = c.args.pending.now }) (typed.Write c.args.write)

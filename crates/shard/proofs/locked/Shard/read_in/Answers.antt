@@ -1,10 +1,11 @@
 use Rattle.std.proofs.Common.{rules, sym, ap, subst, ◌∙◌}
 use Rattle.shard_law.specs.Entries.{ShardView}
+use Rattle.std.proofs.lemmas.Result.{err_from_is_err_and}
 use Rattle.std.specs.Sync.Mutex.{mutex_guard_value}
 use Rattle.journal.specs.Views.{PassView}
 use Rattle.shard_run.specs.declared.Entry.{Entry}
+use Rattle.shard_contents.specs.Transactions as t
 use Rattle.shard.specs.inner.Snapshots.{HasBegunIn}
-use Rattle.shard.proofs.BegunReads.{finished_whole}
 use Rattle.shard.proofs.Found.{found_past}
 use Rattle.shard.proofs.locked.Shard.read_in.Goals as goal
 
@@ -33,6 +34,16 @@ returns-clause-read g c =
       ap (λ (v : ShardView). v.shard.slot) c.deref_mut.ensures.value ∙ c.own_state-state.ensures.at.0,
       ap (λ (v : ShardView). v.shard.place) c.deref_mut.ensures.value ∙ c.own_state-state.ensures.at.1,
       search rules,
-      finished_whole o c.begin_read_in-begun.new.pass.seen s tx c.finish.new.tx q c.in_ok-begun.field-0 c.finish.result has c.finish.ensures.read
-          c.finish.ensures.unchanged c.finish.ensures.err,
+      c.in_ok-reading.ensures.read o c.begin_read_in-begun.new.pass.seen s has,
+    )
+
+pub returns-in_err-reading-clause-read : goal.returns-in_err-reading-clause-read
+returns-in_err-reading-clause-read g c =
+    let p = err_from_is_err_and c.from_residual-in_err-reading.result c.from_residual-in_err-reading.ensures.1 in (
+      c.deref_mut.result.now.shard,
+      search rules,
+      ap (λ (v : ShardView). v.shard.slot) c.deref_mut.ensures.value ∙ c.own_state-state.ensures.at.0,
+      ap (λ (v : ShardView). v.shard.place) c.deref_mut.ensures.value ∙ c.own_state-state.ensures.at.1,
+      search rules,
+      rw (p.1, p.2) (t.no_memory, c.in_err-reading.ensures.unchanged),
     )

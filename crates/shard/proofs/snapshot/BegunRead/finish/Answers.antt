@@ -4,11 +4,19 @@ use Rattle.shard.specs.inner.Snapshots.{HasBegun}
 use Rattle.shard.proofs.BegunReads.{answered_so, selected_so}
 use Rattle.shard.proofs.snapshot.BegunRead.finish.Goals as goal
 
-pub returns-in-Answered-clause-read : goal.returns-in-Answered-clause-read
-returns-in-Answered-clause-read c o run s has =
-    answered_so o run s c.args.query.now c.in-Answered.outcome (subst (λ (b : BegunRead). HasBegun o run s c.args.query.now b) c.in-Answered.is has)
+pub returns-in-Answered : goal.returns-in-Answered
+returns-in-Answered c =
+    record {
+      read = λ o run s has. (
+          answered_so o run s c.args.query.now c.in-Answered.outcome (subst (λ (b : BegunRead). HasBegun o run s c.args.query.now b) c.in-Answered.is has)
+          );
+    }
 
-pub returns-in_ok-reading-in-Begun-clause-read : goal.returns-in_ok-reading-in-Begun-clause-read
-returns-in_ok-reading-in-Begun-clause-read c o run s has =
-    selected_so o run s c.args.query.now c.in-Begun.snapshot c.in_ok-reading-in-Begun.reading c.in_ok-reading-in-Begun.ensures.rows
-    c.in_ok-reading-in-Begun.ensures.entries (subst (λ (b : BegunRead). HasBegun o run s c.args.query.now b) c.in-Begun.is has)
+pub returns-in_ok-reading-in-Begun : goal.returns-in_ok-reading-in-Begun
+returns-in_ok-reading-in-Begun c =
+    record {
+      read = λ o run s has. (
+          selected_so o run s c.args.query.now c.in-Begun.snapshot c.in_ok-reading-in-Begun.reading c.in_ok-reading-in-Begun.ensures.rows
+          c.in_ok-reading-in-Begun.ensures.entries (subst (λ (b : BegunRead). HasBegun o run s c.args.query.now b) c.in-Begun.is has)
+          );
+    }

@@ -25,7 +25,7 @@ returns-in_err-entries-clause-err g c =
 pub returns-in_err-rows-clause-err : goal.returns-in_err-rows-clause-err
 returns-in_err-rows-clause-err g c =
     let p = err_from_is_err_and c.from_residual-in_err-rows.result c.from_residual-in_err-rows.ensures.1 in
-    rw (p.1, p.2, c.in_err-rows.ensures.err) t.no_memory
+    rw (p.1, p.2) t.no_memory
 
 pub rows_in-requires : goal.rows_in-requires
 rows_in-requires g c =

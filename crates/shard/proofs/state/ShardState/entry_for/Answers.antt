@@ -28,18 +28,19 @@ restricted_changes-requires g c =
     (subst (λ (v' : VSchema). AllByRecursion (λ (x : RowChange). changed_table x < length v'.tables) (kept_of s.0)) (sym c.requires.schema)
     (stored_there_now o v.seen (legal_is o v.seen c.requires.legal) v.shard.slot c.args.at s.0 s.1))
 
-pub returns-clause-entry : goal.returns-clause-entry
-returns-clause-entry g c =
-    let told = entry_told g.W.World.opening g.W.World.limits c.self.inside.seat.seen c.self.inside.contents c.args.self.now c.self.invariant.0.keeps c.self.view_is
-    c.requires.lives c.args.at c.in-Some.entry.now c.in-Some.ensures in (
-      refl,
-      record {
-        of_source = c.slot.ensures.slot;
-        entry = told.0;
-        stored = told.1;
-        changes =
-            c.in_ok-changes.ensures.ok
-            ∙ ap (λ (l : List RowChange). restricted_changes c.args.schema.now c.args.place.now l) (c.changes.ensures ∙ sym told.2)
-            ∙ ap (λ (s : VSchema). restricted_changes s c.args.place.now (kept_of told.0)) c.requires.schema;
-      },
-    )
+pub returns : goal.returns
+returns g c = record {
+  entry = (let told = entry_told g.W.World.opening g.W.World.limits c.self.inside.seat.seen c.self.inside.contents c.args.self.now c.self.invariant.0.keeps c.self.view_is
+      c.requires.lives c.args.at c.in-Some.entry.now c.in-Some.ensures in (
+        refl,
+        record {
+          of_source = c.slot.ensures.slot;
+          entry = told.0;
+          stored = told.1;
+          changes =
+              c.in_ok-changes.ensures.ok
+              ∙ ap (λ (l : List RowChange). restricted_changes c.args.schema.now c.args.place.now l) (c.changes.ensures ∙ sym told.2)
+              ∙ ap (λ (s : VSchema). restricted_changes s c.args.place.now (kept_of told.0)) c.requires.schema;
+        },
+      ));
+}

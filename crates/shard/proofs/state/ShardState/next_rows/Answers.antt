@@ -5,13 +5,14 @@ use Rattle.shard_contents.proofs.CopySteps.{copied_as}
 use Rattle.std.specs.Prelude.{option_copied}
 use Rattle.shard.proofs.state.ShardState.next_rows.Goals as goal
 
-pub returns-clause-next : goal.returns-clause-next
-returns-clause-next g c =
-    let o = g.W.World.opening in
-    let v = c.args.self.now in
-    let n = c.in-Some.table in (
-      c.in-Some.ensures,
-      λ row.
-          copied_as o v.seen v.shard.slot c.args.source n row (option_copied c.last_copied.result) (c.last_copied.ensures row) c.in-Some.ensures.unfinished
-          ∙ ap (λ r. is_reached (table_at o.schema n) r row) (sym c.in_ok-after.ensures.ok),
-    )
+pub returns : goal.returns
+returns g c = record {
+  next = (let o = g.W.World.opening in
+      let v = c.args.self.now in
+      let n = c.in-Some.table in (
+        c.in-Some.ensures,
+        λ row.
+            copied_as o v.seen v.shard.slot c.args.source n row (option_copied c.last_copied.result) (c.last_copied.ensures row) c.in-Some.ensures.unfinished
+            ∙ ap (λ r. is_reached (table_at o.schema n) r row) (sym c.in_ok-after.ensures.ok),
+      ));
+}

@@ -32,7 +32,7 @@ returns-in_err-changes-clause-err g c =
 pub returns-in_err-add-clause-err : goal.returns-in_err-add-clause-err
 returns-in_err-add-clause-err g c =
     let p = err_from_is_err_and c.from_residual-in_err-add.result c.from_residual-in_err-add.ensures.1 in
-    rw (p.1, p.2, c.in_err-add.ensures.err) t.no_memory
+    rw (p.1, p.2) t.no_memory
 
 pub returns-clause-written : goal.returns-clause-written
 returns-clause-written g c =

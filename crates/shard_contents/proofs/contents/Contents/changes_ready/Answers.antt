@@ -18,7 +18,7 @@ returns-in_err-changes-clause-err c =
 pub returns-in_err-room-clause-err : goal.returns-in_err-room-clause-err
 returns-in_err-room-clause-err c =
     let p = err_from_is_err_and c.from_residual-in_err-room.result c.from_residual-in_err-room.ensures.1 in
-    rw (p.1, p.2, c.in_err-room.ensures.err) no_memory
+    rw (p.1, p.2) no_memory
 
 pub make_room-requires : goal.make_room-requires
 make_room-requires c =

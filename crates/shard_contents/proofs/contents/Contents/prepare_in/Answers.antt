@@ -10,10 +10,10 @@ use Rattle.shard_contents.proofs.contents.Contents.prepare_in.Goals as goal
 pub returns-in_err-kept-clause-err : goal.returns-in_err-kept-clause-err
 returns-in_err-kept-clause-err c =
     let p = err_from_is_err_and c.from_residual.result c.from_residual.ensures.1 in
-    rw (p.1, p.2, c.in_err-kept.ensures.err) no_memory
+    rw (p.1, p.2) no_memory
 
 pub returns-in-Err-clause-err : goal.returns-in-Err-clause-err
-returns-in-Err-clause-err c = rw c.in-Err.ensures.err no_memory
+returns-in-Err-clause-err c = no_memory
 
 pub returns-then-not-has_room_for-clause-err : goal.returns-then-not-has_room_for-clause-err
 returns-then-not-has_room_for-clause-err c =

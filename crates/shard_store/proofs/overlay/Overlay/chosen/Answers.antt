@@ -9,10 +9,12 @@ use Rattle.shard_store.specs.inner.Overlays.{left_of}
 use Rattle.shard_store.proofs.Overlaid.{kept_left}
 use Rattle.shard_store.proofs.overlay.Overlay.chosen.Goals as goal
 
-pub returns-clause-ok : goal.returns-clause-ok
-returns-clause-ok c =
-    let p = is_kept c.args.condition.now in
-    ap (λ (others : List (Bor Row)). filter p (left_of c.self.inside.gone (rows_left c.in_ok-slots.slots) ++ rows_lent others)) c.as_slice.ensures.value
-    ∙ kept_left p c.self.inside.gone (rows_left c.in_ok-slots.slots) (rows_in c.self.inside.stored.now.slots) (rows_lent c.self.inside.others.items)
-    c.in_ok-slots.ensures.ok
-    ∙ ap (λ (v : ChangedView). filter p v.rows) c.self.view_is
+pub returns : goal.returns
+returns c =
+    record {
+      ok = (let p = is_kept c.args.condition.now in
+          ap (λ (others : List (Bor Row)). filter p (left_of c.self.inside.gone (rows_left c.in_ok-slots.slots) ++ rows_lent others)) c.as_slice.ensures.value
+          ∙ kept_left p c.self.inside.gone (rows_left c.in_ok-slots.slots) (rows_in c.self.inside.stored.now.slots) (rows_lent c.self.inside.others.items)
+          c.in_ok-slots.ensures.ok
+          ∙ ap (λ (v : ChangedView). filter p v.rows) c.self.view_is);
+    }

@@ -6,9 +6,11 @@ use Rattle.shard_store.specs.inner.Joined.{rows_lent}
 use Rattle.shard_store.proofs.Overlaid.{none_gone}
 use Rattle.shard_store.proofs.overlay.Overlay.of.Goals as goal
 
-pub returns-clause-rows : goal.returns-clause-rows
-returns-clause-rows c =
-    let slots = rows_in c.table.inside.stored.slots in
-    ap (λ (z : List Row). z ++ rows_lent c.in_ok-others.others.items) (none_gone c.new-2.result c.new-2.ensures.keys slots)
-    ∙ ap (λ (z : List Row). slots ++ z) (c.in_ok-others.ensures.ok ∙ c.new.ensures ∙ c.as_slice.ensures.value)
-    ∙ ap (λ (v : RowsView). v.rows) c.table.view_is
+pub returns : goal.returns
+returns c =
+    record {
+      rows = (let slots = rows_in c.table.inside.stored.slots in
+          ap (λ (z : List Row). z ++ rows_lent c.in_ok-others.others.items) (none_gone c.new-2.result c.new-2.ensures.keys slots)
+          ∙ ap (λ (z : List Row). slots ++ z) (c.in_ok-others.ensures.ok ∙ c.new.ensures ∙ c.as_slice.ensures.value)
+          ∙ ap (λ (v : RowsView). v.rows) c.table.view_is);
+    }

@@ -7,14 +7,16 @@ use Rattle.vschema.specs.Database.{same_row}
 use Rattle.shard_store.proofs.KeptRows.{none_any}
 use Rattle.shard_store.proofs.stored.StoredTables.has_any_key.Goals as goal
 
-pub returns-in-Some-clause-ok : goal.returns-in-Some-clause-ok
-returns-in-Some-clause-ok c =
-    let t = c.args.table.now in
-    subst (λ (rows : List Row). IfOk c.has_any_key.result (λ has. has ≡ list_any (λ n. list_any (λ r. same_row (key_of t n) (key_of t r)) rows) c.args.new.now))
-    (sym c.in-Some.ensures) c.has_any_key.ensures.ok
+pub returns-in-Some : goal.returns-in-Some
+returns-in-Some c = record {
+  ok = (let t = c.args.table.now in
+      subst (λ (rows : List Row). IfOk c.has_any_key.result (λ has. has ≡ list_any (λ n. list_any (λ r. same_row (key_of t n) (key_of t r)) rows) c.args.new.now))
+      (sym c.in-Some.ensures) c.has_any_key.ensures.ok);
+}
 
-pub returns-in-None-clause-ok : goal.returns-in-None-clause-ok
-returns-in-None-clause-ok c =
-    let t = c.args.table.now in
-    subst (λ (rows : List Row). false ≡ list_any (λ n. list_any (λ r. same_row (key_of t n) (key_of t r)) rows) c.args.new.now) (sym c.in-None.ensures)
-    (sym (none_any (λ n. list_any (λ r. same_row (key_of t n) (key_of t r)) []) (λ n. refl) c.args.new.now))
+pub returns-in-None : goal.returns-in-None
+returns-in-None c = record {
+  ok = (let t = c.args.table.now in
+      subst (λ (rows : List Row). false ≡ list_any (λ n. list_any (λ r. same_row (key_of t n) (key_of t r)) rows) c.args.new.now) (sym c.in-None.ensures)
+      (sym (none_any (λ n. list_any (λ r. same_row (key_of t n) (key_of t r)) []) (λ n. refl) c.args.new.now)));
+}

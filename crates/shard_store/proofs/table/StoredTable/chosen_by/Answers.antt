@@ -6,7 +6,8 @@ use Rattle.shard_store.specs.inner.Joined.{may_have}
 use Rattle.shard_store.proofs.KeptPairs.{all_may}
 use Rattle.shard_store.proofs.table.StoredTable.chosen_by.Goals as goal
 
-pub returns-in-None-clause-ok : goal.returns-in-None-clause-ok
-returns-in-None-clause-ok c =
-    subst (λ (o : Option Fixed). c.rows.result ≡ filter (may_have o (slice_index c.args.self.now.ordinals 0)) (rows_in c.args.self.now.slots)) (sym c.in-None.is)
-    (c.rows.ensures ∙ all_may (slice_index c.args.self.now.ordinals 0) (rows_in c.args.self.now.slots))
+pub returns-in-None : goal.returns-in-None
+returns-in-None c = record {
+  ok = (subst (λ (o : Option Fixed). c.rows.result ≡ filter (may_have o (slice_index c.args.self.now.ordinals 0)) (rows_in c.args.self.now.slots)) (sym c.in-None.is)
+      (c.rows.ensures ∙ all_may (slice_index c.args.self.now.ordinals 0) (rows_in c.args.self.now.slots)));
+}

@@ -6,12 +6,14 @@ use Rattle.shard_store.specs.Slots.{rows_in}
 use Rattle.shard_store.specs.Chosen.{fits}
 use Rattle.shard_store.proofs.table.StoredTable.chosen_of.Goals as goal
 
-pub returns-in_ok-rows-in-One-clause-ok : goal.returns-in_ok-rows-in-One-clause-ok
-returns-in_ok-rows-in-One-clause-ok c =
-    subst (λ (f : Fixed). c.in_ok-rows-in-One.rows ≡ filter (λ row. fits f (value_at row (slice_index c.args.self.now.ordinals 0))) (rows_in c.args.self.now.slots))
-    (sym c.in-One.is) c.in_ok-rows-in-One.ensures.ok
+pub returns-in_ok-rows-in-One : goal.returns-in_ok-rows-in-One
+returns-in_ok-rows-in-One c = record {
+  ok = subst (λ (f : Fixed). c.in_ok-rows-in-One.rows ≡ filter (λ row. fits f (value_at row (slice_index c.args.self.now.ordinals 0))) (rows_in c.args.self.now.slots))
+      (sym c.in-One.is) c.in_ok-rows-in-One.ensures.ok;
+}
 
-pub returns-in_ok-rows-in-Among-clause-ok : goal.returns-in_ok-rows-in-Among-clause-ok
-returns-in_ok-rows-in-Among-clause-ok c =
-    subst (λ (f : Fixed). c.in_ok-rows-in-Among.rows ≡ filter (λ row. fits f (value_at row (slice_index c.args.self.now.ordinals 0))) (rows_in c.args.self.now.slots))
-    (sym c.in-Among.is) c.in_ok-rows-in-Among.ensures.ok
+pub returns-in_ok-rows-in-Among : goal.returns-in_ok-rows-in-Among
+returns-in_ok-rows-in-Among c = record {
+  ok = subst (λ (f : Fixed). c.in_ok-rows-in-Among.rows ≡ filter (λ row. fits f (value_at row (slice_index c.args.self.now.ordinals 0))) (rows_in c.args.self.now.slots))
+      (sym c.in-Among.is) c.in_ok-rows-in-Among.ensures.ok;
+}

@@ -5,10 +5,11 @@ use Rattle.shard_store.specs.Tables.{has_key}
 use Rattle.shard_store.proofs.LoneKeys.{begun_alone}
 use Rattle.shard_store.proofs.table.StoredTable.row_with.Goals as goal
 
-pub returns-clause-ok : goal.returns-clause-ok
-returns-clause-ok c =
-    let ordinals = c.args.self.now.ordinals in
-    let rows = rows_in c.args.self.now.slots in
-    c.get.ensures
-    ∙ ap (λ (k : RowKey). filter (has_key ordinals k.values) rows) c.in_ok-key.ensures.ok
-    ∙ begun_alone ordinals c.args.value.now c.requires rows
+pub returns : goal.returns
+returns c = record {
+  ok = (let ordinals = c.args.self.now.ordinals in
+      let rows = rows_in c.args.self.now.slots in
+      c.get.ensures
+      ∙ ap (λ (k : RowKey). filter (has_key ordinals k.values) rows) c.in_ok-key.ensures.ok
+      ∙ begun_alone ordinals c.args.value.now c.requires rows);
+}

@@ -21,15 +21,16 @@ select_by_value-requires c κs = (
       (c.requires.summed aggregated)),
 )
 
-pub returns-clause-ok : goal.returns-clause-ok
-returns-clause-ok c =
-    let q = c.args.query.now in
-    let j = c.args.join in
-    let first = c.args.self.now.rows in
-    let second = c.args.second.now.rows in
-    let found = c.in_ok-seconds.seconds.rows in
-    let chosen = rows_chosen c.in_ok-firsts.firsts in
-    IfOk-weaker c.select_by_value.result _ _
-    (λ list answer. same_answers q (pairs_of j first found) (pairs_of j first second) list (seconds_permuted j first found second c.in_ok-seconds.ensures.ok)
-    (answer_of_same_kept q (pairs_of j chosen found) (pairs_of j first found) list (c.in_ok-firsts.ensures.kept found) answer))
-    c.select_by_value.ensures.ok
+pub returns : goal.returns
+returns c = record {
+  ok = (let q = c.args.query.now in
+      let j = c.args.join in
+      let first = c.args.self.now.rows in
+      let second = c.args.second.now.rows in
+      let found = c.in_ok-seconds.seconds.rows in
+      let chosen = rows_chosen c.in_ok-firsts.firsts in
+      IfOk-weaker c.select_by_value.result _ _
+      (λ list answer. same_answers q (pairs_of j first found) (pairs_of j first second) list (seconds_permuted j first found second c.in_ok-seconds.ensures.ok)
+      (answer_of_same_kept q (pairs_of j chosen found) (pairs_of j first found) list (c.in_ok-firsts.ensures.kept found) answer))
+      c.select_by_value.ensures.ok);
+}
