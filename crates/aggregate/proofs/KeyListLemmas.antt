@@ -47,14 +47,14 @@ distinct_mapped [] h = tt
 distinct_mapped (k ∷ keys) h = (others_mapped k keys h.0, distinct_mapped keys h.1)
 
 module _ {X : Type 0} where
-  -- the list with one more, where there is no such key, or as it is
-  pub with_new : (t : Bool) (xs : List X) (x : X) → t ≡ false → xs ++ x ∷ [] ≡ (if t then xs else xs ++ x ∷ [])
-  with_new true xs x e = absurd (true≢false e)
-  with_new false xs x e = refl
+  -- the list with more after it, where there is no such key, or as it is
+  pub with_new : (t : Bool) (xs ys : List X) → t ≡ false → xs ++ ys ≡ (if t then xs else xs ++ ys)
+  with_new true xs ys e = absurd (true≢false e)
+  with_new false xs ys e = refl
 
-  pub with_old : (t : Bool) (xs : List X) (x : X) → t ≡ true → xs ≡ (if t then xs else xs ++ x ∷ [])
-  with_old true xs x e = refl
-  with_old false xs x e = absurd (true≢false (sym e))
+  pub with_old : (t : Bool) (xs ys : List X) → t ≡ true → xs ≡ (if t then xs else xs ++ ys)
+  with_old true xs ys e = refl
+  with_old false xs ys e = absurd (true≢false (sym e))
 
 pub not_true : (t : Bool) → true ≡ not t → t ≡ false
 not_true true e = absurd (true≢false e)

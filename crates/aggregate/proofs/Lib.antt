@@ -1,8 +1,8 @@
 pub mod BeginningLemmas
-pub mod ColumnLemmas
 pub mod DistinctLemmas
 pub mod Examples
-pub mod GroupLemmas
+pub mod FinishLemmas
+pub mod FlatLemmas
 pub mod GroupingLemmas
 pub mod HeldLemmas
 pub mod KeyListLemmas

@@ -50,7 +50,7 @@ module _ {P : Type 0} (joined : P → P → P) (nothing : P) (one : Value → P)
   parts_join (bag ∷ bags) =
       (λ i. joined (again bag i) (parts_join bags i)) ∙ sym (laws.splits bag (together bags))
 
-number_again : (p : Option ℤ) → present_number (part_value p) ≡ p
+pub number_again : (p : Option ℤ) → present_number (part_value p) ≡ p
 number_again None = refl
 number_again (Some n) = refl
 
@@ -92,13 +92,13 @@ module _ (meaning shown : List Value → Value) (same : (vs : List Value) → sh
   each_same [] = refl
   each_same (bag ∷ bags) = (λ i. sym (same bag) i ∷ each_same bags i)
 
-sums_join : (bags : List (List Value)) → sum_of (present (map (λ bag. sum_of (present bag)) bags)) ≡ sum_of (present (together bags))
+pub sums_join : (bags : List (List Value)) → sum_of (present (map (λ bag. sum_of (present bag)) bags)) ≡ sum_of (present (together bags))
 sums_join bags =
     ap (λ parts. sum_of (present parts)) (each_same (λ bag. sum_of (present bag)) (λ bag. part_value (total_part bag)) sum_is bags)
     ∙ sym (sum_is (map (λ bag. part_value (total_part bag)) bags))
     ∙ ap part_value (parts_join (join_options ◌+ℤ◌) None present_number sum_laws part_value (λ vs. number_again (total_part vs)) bags) ∙ sum_is (together bags)
 
-leasts_join : (bags : List (List Value)) → least_of (present (map (λ bag. least_of (present bag)) bags)) ≡ least_of (present (together bags))
+pub leasts_join : (bags : List (List Value)) → least_of (present (map (λ bag. least_of (present bag)) bags)) ≡ least_of (present (together bags))
 leasts_join bags =
     ap (λ parts. least_of (present parts)) (each_same (λ bag. least_of (present bag)) (λ bag. unwrap_or (least_part bag) Null) min_is bags)
     ∙ sym (min_is (map (λ bag. unwrap_or (least_part bag) Null) bags))
@@ -106,7 +106,7 @@ leasts_join bags =
     (parts_join (join_options lesser) None present_value min_laws (λ p. unwrap_or p Null) (λ vs. kept_again lesser lesser_picks (least_part vs) (all_kept lesser lesser_picks vs)) bags)
     ∙ min_is (together bags)
 
-greatests_join : (bags : List (List Value)) → greatest_of (present (map (λ bag. greatest_of (present bag)) bags)) ≡ greatest_of (present (together bags))
+pub greatests_join : (bags : List (List Value)) → greatest_of (present (map (λ bag. greatest_of (present bag)) bags)) ≡ greatest_of (present (together bags))
 greatests_join bags =
     ap (λ parts. greatest_of (present parts)) (each_same (λ bag. greatest_of (present bag)) (λ bag. unwrap_or (greatest_part bag) Null) max_is bags)
     ∙ sym (max_is (map (λ bag. unwrap_or (greatest_part bag) Null) bags))
@@ -123,7 +123,7 @@ whole_joined (Sum c) bags = sums_join bags
 whole_joined (Min c) bags = leasts_join bags
 whole_joined (Max c) bags = greatests_join bags
 
-total_join : (vs ws : List Value) → total (present (vs ++ ws)) ≡ total (present vs) +ℤ total (present ws)
+pub total_join : (vs ws : List Value) → total (present (vs ++ ws)) ≡ total (present vs) +ℤ total (present ws)
 total_join [] ws = sym (+ℤ_idl (total (present ws)))
 total_join (Null ∷ vs) ws = total_join vs ws
 total_join (Int n ∷ vs) ws = ap (λ (m : ℤ). n +ℤ m) (total_join vs ws) ∙ sym (+ℤ_assoc n (total (present vs)) (total (present ws)))

@@ -1,125 +1,105 @@
-//! The parts of one aggregate column, as the shards answer them, and how they are joined into the column's value.
-ghost use Rattle.std.specs.Prelude.{◌≡◌, [], ◌∷◌, ◌+ℤ◌, map, FitsSigned, IfOk, IfSome, OnOk};
-ghost use Rattle.std.specs.Int.{w128};
-ghost use Rattle.vt_value.specs.Values.{value_at};
-ghost use Rattle.aggregate.specs.Aggregates.{lesser, greater};
-ghost use Rattle.aggregate.specs.Parts.{join_options};
-ghost use Rattle.aggregate.specs.inner.Columns.{total_part, least_part, greatest_part, column_part, with_value, with_values, finished, CanHold, CanHoldAll};
+//! What the parts of aggregate columns give together, as the shards answer them.
+ghost use Rattle.std.specs.Prelude.{◌≡◌, [], ◌∷◌, ◌++◌, ◌+ℤ◌, length, map, reverse, OnOk};
+ghost use Rattle.aggregate.specs.Aggregates.{total, sum_of, least_of, greatest_of, present};
+ghost use Rattle.aggregate.specs.Groups.{joined_part};
+ghost use Rattle.aggregate.specs.Parts.{join_options, present_number};
+ghost use Rattle.aggregate.specs.inner.Columns.{with_values, FitTogether, CanJoin, CanJoinAll};
 
-use crate::extremes::{Max, Min};
 use crate::joining::Aggregate;
-use crate::sums::{Sum, number};
+use crate::sums::{Sum, number, plus};
 use sql_tree::Item;
-use std::alloc::{AllocError, Global};
-use vt_value::Value;
+use std::alloc::AllocError;
+use vt_value::{Value, sort_order};
 
-/// What is kept of a column of parts.
-#[derive(Drop)]
-pub enum ColumnPart {
-    /// No aggregate.
-    Nothing,
-    /// Counts are added.
-    Number(Option<i128>),
-    /// Sums are added, NULL of none.
-    Total(Option<i128>),
-    Least(Option<Value>),
-    Greatest(Option<Value>),
-}
-
-fn join_total(alloc: Global, part: &mut Option<i128>, value: &Value) -> Result<(), AllocError>
-    requires { IfSome (join_options ◌+ℤ◌ part.old (total_part (value.now ∷ []))) (λ n. FitsSigned w128 n) }
-    ensures ok { OnOk result (part.new ≡ join_options ◌+ℤ◌ part.old (total_part (value.now ∷ []))) }
+/// The sum of two parts, of which NULL is none.
+fn total(part: &Value, value: &Value) -> Option<i128>
+    requires { FitTogether part.now value.now }
+    ensures { result ≡ join_options ◌+ℤ◌ (present_number part.now) (present_number value.now) }
 {
-    Sum::join(alloc, part, &number(value))
+    plus(number(part), number(value))
 }
 
-fn join_least(alloc: Global, part: &mut Option<Value>, value: &Value) -> Result<(), AllocError>
-    ensures ok { OnOk result (part.new ≡ join_options lesser part.old (least_part (value.now ∷ []))) }
+fn join_count(part: &mut Value, value: &Value)
+    requires { FitTogether part.old value.now }
+    ensures { part.new ≡ Value.Int (total (present (part.old ∷ value.now ∷ []))) }
 {
-    Min::add(alloc, part, value)
+    *part = Value::Int(total(part, value).unwrap_or(0));
 }
 
-fn join_greatest(alloc: Global, part: &mut Option<Value>, value: &Value) -> Result<(), AllocError>
-    ensures ok { OnOk result (part.new ≡ join_options greater part.old (greatest_part (value.now ∷ []))) }
+fn join_sum(part: &mut Value, value: &Value)
+    requires { FitTogether part.old value.now }
+    ensures { part.new ≡ sum_of (present (part.old ∷ value.now ∷ [])) }
 {
-    Max::add(alloc, part, value)
+    *part = Sum::finish(total(part, value));
 }
 
-impl ColumnPart {
-    /// What is kept of no parts.
-    pub fn empty(aggregate: &Item<usize>) -> ColumnPart
-        ensures { result ≡ column_part aggregate.now [] }
-    {
-        match aggregate {
-            Item::Column(_) => ColumnPart::Nothing,
-            Item::CountRows | Item::Count(_) => ColumnPart::Number(Sum::empty()),
-            Item::Sum(_) => ColumnPart::Total(Sum::empty()),
-            Item::Min(_) => ColumnPart::Least(Min::empty()),
-            Item::Max(_) => ColumnPart::Greatest(Max::empty()),
-        }
-    }
-
-    /// Joins the part that is in a row. Refuses only for want of memory.
-    pub fn add(&mut self, alloc: Global, value: &Value) -> Result<(), AllocError>
-        requires { CanHold (with_value self.old value.now) }
-        ensures ok { OnOk result (self.new ≡ with_value self.old value.now) }
-    {
-        match self {
-            ColumnPart::Nothing => Ok(()),
-            ColumnPart::Number(part) => join_total(alloc, part, value),
-            ColumnPart::Total(part) => join_total(alloc, part, value),
-            ColumnPart::Least(part) => join_least(alloc, part, value),
-            ColumnPart::Greatest(part) => join_greatest(alloc, part, value),
-        }
-    }
-
-    /// Joins the part at an ordinal of these values, NULL after the last.
-    fn add_at(&mut self, alloc: Global, values: &[Value], ordinal: usize) -> Result<(), AllocError>
-        requires { CanHold (with_value self.old (value_at values.now ordinal)) }
-        ensures ok { OnOk result (self.new ≡ with_value self.old (value_at values.now ordinal)) }
-    {
-        match values.get(ordinal) {
-            Some(value) => self.add(alloc, value),
-            None => self.add(alloc, &Value::Null),
-        }
-    }
-
-    /// What the parts give together.
-    pub fn finish(self) -> Value
-        ensures { result ≡ finished self }
-    {
-        match self {
-            ColumnPart::Nothing => Value::Null,
-            ColumnPart::Number(part) => Value::Int(part.unwrap_or(0)),
-            ColumnPart::Total(part) => Sum::finish(part),
-            ColumnPart::Least(part) => Min::finish(part),
-            ColumnPart::Greatest(part) => Max::finish(part),
-        }
-    }
-}
-
-/// What is kept of each aggregate's parts, of none.
-pub fn empty_parts(alloc: Global, aggregates: &[Item<usize>]) -> Result<Vec<ColumnPart>, AllocError>
-    ensures ok { IfOk result (λ parts. parts.items ≡ map (λ a. column_part a []) aggregates.now) }
+fn join_least(part: &mut Value, value: Value)
+    ensures { part.new ≡ least_of (present (part.old ∷ value ∷ [])) }
 {
-    let mut parts = Vec::with_capacity(alloc, aggregates.len())?;
-    for aggregate in aggregates {
-        parts.push(ColumnPart::empty(aggregate))?;
+    // NULL is before all values in their order
+    if !matches!(value, Value::Null)
+        && (matches!(part, Value::Null) || sort_order(&value, part).is_lt())
+    {
+        *part = value;
     }
-    Ok(parts)
 }
 
-/// Joins the parts that are in a row after its group's values. Refuses only for want of memory.
-pub fn add_values(
-    alloc: Global,
-    parts: &mut Vec<ColumnPart>,
-    values: &[Value],
+fn join_greatest(part: &mut Value, value: Value)
+    ensures { part.new ≡ greatest_of (present (part.old ∷ value ∷ [])) }
+{
+    if sort_order(part, &value).is_lt() {
+        *part = value;
+    }
+}
+
+/// What the parts of an aggregate give, of none.
+fn empty_part(aggregate: &Item<usize>) -> Value
+    ensures { result ≡ joined_part aggregate.now [] }
+{
+    match aggregate {
+        Item::CountRows | Item::Count(_) => Value::Int(0),
+        Item::Column(_) | Item::Sum(_) | Item::Min(_) | Item::Max(_) => Value::Null,
+    }
+}
+
+/// Joins one part more to what the parts of an aggregate give.
+fn join_part(aggregate: &Item<usize>, part: &mut Value, value: Value)
+    requires { CanJoin aggregate.now part.old value }
+    ensures { part.new ≡ joined_part aggregate.now (part.old ∷ value ∷ []) }
+{
+    match aggregate {
+        Item::Column(_) => *part = Value::Null,
+        Item::CountRows | Item::Count(_) => join_count(part, &value),
+        Item::Sum(_) => join_sum(part, &value),
+        Item::Min(_) => join_least(part, value),
+        Item::Max(_) => join_greatest(part, value),
+    }
+}
+
+/// Appends what the parts of each aggregate give, of none.
+pub fn push_empty_parts(
+    aggregates: &[Item<usize>],
+    parts: &mut Vec<Value>,
 ) -> Result<(), AllocError>
-    requires { CanHoldAll (with_values parts.old.items values.now) }
-    ensures ok { OnOk result (parts.new.items ≡ with_values parts.old.items values.now) }
+    ensures ok { OnOk result (parts.new.items ≡ parts.old.items ++ map (λ a. joined_part a []) aggregates.now) }
 {
-    for i in 0..parts.len() {
-        parts[i].add_at(alloc, values, i)?;
+    for aggregate in aggregates {
+        parts.push(empty_part(aggregate))?;
     }
     Ok(())
+}
+
+/// Joins the parts that are in a row after its group's values, NULL after the last. They are moved out of a list that has the last one first.
+pub fn add_values(aggregates: &[Item<usize>], parts: &mut [Value], values: &mut Vec<Value>)
+    requires each { length parts.old ≡ length aggregates.now }
+    requires holds { CanJoinAll aggregates.now parts.old (reverse values.old.items) }
+    ensures { parts.new ≡ with_values aggregates.now parts.old (reverse values.old.items) }
+{
+    for i in 0..aggregates.len() {
+        join_part(
+            &aggregates[i],
+            &mut parts[i],
+            values.pop().unwrap_or(Value::Null),
+        );
+    }
 }

@@ -1,34 +1,35 @@
 //! Joins the groups that several shards answer. Groups are found by a hash of their values, and each keeps the parts of its aggregates.
-ghost use Rattle.std.specs.Prelude.{◌≡◌, ◌++◌, List, [], ◌∷◌, Some, Bool, ◌<◌, map, take, drop, length, slice_get, slice_index_or, slice_set, IfOk, OnOk, if◌then◌else◌};
-ghost use Rattle.std.specs.List.{IsDistinct, zip};
+ghost use Rattle.std.specs.Prelude.{◌≡◌, ◌+◌, ◌*◌, ◌≤◌, ◌++◌, List, [], ◌∷◌, Some, map, take, drop, reverse, length, slice_get, IfOk, OnOk, if◌then◌else◌};
+ghost use Rattle.std.specs.List.{IsDistinct};
+ghost use Rattle.std.specs.Vec.Iter.{into_iter_items};
 ghost use Rattle.indexmap.specs.IndexSet.{insert_key};
 ghost use Rattle.vt_value.specs.Values.{Row as Line, same_row};
-ghost use Rattle.aggregate.specs.inner.Columns.{column_part, with_values, finished, group_row, CanHoldAll};
-ghost use Rattle.aggregate.specs.inner.Grouping.{has_row};
-ghost use Rattle.aggregate.specs.Groups.{joined_rows, AreSummable};
-ghost use Rattle.aggregate.specs.inner.Grouping.{key_values, part_lists, IsGrouped};
+ghost use Rattle.aggregate.specs.Groups.{joined_part, joined_rows, AreSummable};
+ghost use Rattle.aggregate.specs.inner.Columns.{with_values, CanJoinAll};
+ghost use Rattle.aggregate.specs.inner.Grouping.{has_row, key_values, group_at, with_group, finished_rows, IsGrouped};
 
-use crate::columns::{ColumnPart, add_values, empty_parts};
+use crate::columns::{add_values, push_empty_parts};
 use crate::keys::{BeginsAs, GroupKey};
 use indexmap::IndexSet;
 use operators::{Operator, Rows};
 use sql_tree::Item;
 use std::alloc::{AllocError, Global};
 use std::hash::DefaultHasher;
+use std::vec::IntoIter;
 use vt_value::{Items, Row, Value};
 
 /// The groups of the rows so far.
 #[derive(Drop)]
 pub struct Groups {
     keys: IndexSet<GroupKey, BeginsAs>,
-    /// For each key, what is kept of its group's columns of parts.
-    parts: Vec<Vec<ColumnPart>>,
+    /// Of each key in turn what its group's parts give, a value for each aggregate. So a group takes no list of its own.
+    parts: Vec<Value>,
 }
 
-/// Moves the values after a row's group values, which stay.
+/// Moves the values after a row's group values, which stay. The last one comes first.
 fn move_parts(row: &mut Row, width: usize, parts: &mut Vec<Value>) -> Result<(), AllocError>
     ensures values { OnOk result (row.new ≡ take width row.old) }
-    ensures parts { OnOk result (parts.new.items ≡ drop width row.old) }
+    ensures parts { OnOk result (parts.new.items ≡ reverse (drop width row.old)) }
 {
     parts.clear();
     while row.len() > width {
@@ -36,7 +37,6 @@ fn move_parts(row: &mut Row, width: usize, parts: &mut Vec<Value>) -> Result<(),
             parts.push(value)?;
         }
     }
-    parts.reverse();
     Ok(())
 }
 
@@ -55,47 +55,42 @@ impl Groups {
             parts: Vec::new(alloc),
         };
         if width == 0 {
-            groups.open(alloc, aggregates, Items::new(alloc))?;
+            groups.open(aggregates, Items::new(alloc))?;
         }
         Ok(groups)
     }
 
     /// The ordinal of the group with these values, which is made if there is none.
-    fn open(
-        &mut self,
-        alloc: Global,
-        aggregates: &[Item<usize>],
-        values: Row,
-    ) -> Result<usize, AllocError>
+    fn open(&mut self, aggregates: &[Item<usize>], values: Row) -> Result<usize, AllocError>
         ensures keys { OnOk result (key_values self.new ≡ insert_key same_row (key_values self.old) values) }
-        ensures parts { OnOk result (part_lists self.new ≡ (if has_row values (key_values self.old) then part_lists self.old
-            else part_lists self.old ++ map (λ a. column_part a []) aggregates.now ∷ [])) }
+        ensures parts { OnOk result (self.new.parts.items ≡ (if has_row values (key_values self.old) then self.old.parts.items
+            else self.old.parts.items ++ map (λ a. joined_part a []) aggregates.now)) }
         ensures ordinal { IfOk result (λ ordinal. slice_get (key_values self.new) ordinal ≡ Some values) }
         ensures distinct { OnOk result (IsDistinct same_row (key_values self.new)) }
     {
         let (ordinal, added) = self.keys.insert_full(GroupKey { values })?;
         if added {
-            self.parts.push(empty_parts(alloc, aggregates)?)?;
+            push_empty_parts(aggregates, &mut self.parts)?;
         }
         Ok(ordinal)
     }
 
-    /// Joins values to the parts of the group at an ordinal.
-    fn add_at(&mut self, alloc: Global, ordinal: usize, values: &[Value]) -> Result<(), AllocError>
-        requires within { ordinal < length (part_lists self.old) }
-        requires holds { CanHoldAll (with_values (slice_index_or (part_lists self.old) ordinal []) values.now) }
-        ensures keys { OnOk result (key_values self.new ≡ key_values self.old) }
-        ensures parts { OnOk result (part_lists self.new
-            ≡ slice_set (part_lists self.old) ordinal (with_values (slice_index_or (part_lists self.old) ordinal []) values.now)) }
+    /// Joins values, the last one first, to the parts of the group at an ordinal.
+    fn add_at(&mut self, ordinal: usize, aggregates: &[Item<usize>], values: &mut Vec<Value>)
+        requires within { ordinal * length aggregates.now + length aggregates.now ≤ length self.old.parts.items }
+        requires holds { CanJoinAll aggregates.now (group_at (length aggregates.now) ordinal self.old.parts.items) (reverse values.old.items) }
+        ensures keys { key_values self.new ≡ key_values self.old }
+        ensures parts { self.new.parts.items ≡ with_group (length aggregates.now) ordinal
+            (with_values aggregates.now (group_at (length aggregates.now) ordinal self.old.parts.items) (reverse values.old.items)) self.old.parts.items }
     {
-        add_values(alloc, &mut self.parts[ordinal], values)?;
-        Ok(())
+        let columns = aggregates.len();
+        let begin = ordinal * columns;
+        add_values(aggregates, &mut self.parts[begin..begin + columns], values);
     }
 
     /// Joins a row's parts to those of its group. They are moved through `parts`, so that a row of a known group takes no memory.
     fn add(
         &mut self,
-        alloc: Global,
         aggregates: &[Item<usize>],
         width: usize,
         row: Row,
@@ -107,39 +102,35 @@ impl Groups {
     {
         let mut values = row;
         move_parts(&mut values, width, parts)?;
-        let ordinal = self.open(alloc, aggregates, values)?;
-        self.add_at(alloc, ordinal, parts)?;
+        let ordinal = self.open(aggregates, values)?;
+        self.add_at(ordinal, aggregates, parts);
         Ok(())
     }
 
-    /// One row for each group.
-    fn into_rows(self, alloc: Global) -> Result<Vec<Row>, AllocError>
-        requires { length (key_values self) ≡ length (part_lists self) }
-        ensures ok { IfOk result (λ rows. rows.items ≡ map group_row (zip (key_values self) (part_lists self))) }
+    /// One row for each group, of which each has so many columns of parts.
+    fn into_rows(self, alloc: Global, columns: usize) -> Result<Vec<Row>, AllocError>
+        ensures ok { IfOk result (λ rows. rows.items ≡ finished_rows columns (key_values self) self.parts.items) }
     {
-        let Groups {
-            mut keys,
-            mut parts,
-        } = self;
-        let mut rows = Vec::new(alloc);
-        while let Some(key) = keys.pop() {
-            let Some(parts) = parts.pop() else {
-                unreachable!();
-            };
-            rows.push(finish(key.values, parts)?)?;
+        let Groups { keys, parts } = self;
+        let mut rows = Vec::with_capacity(alloc, keys.len())?;
+        let mut parts = parts.into_iter();
+        for key in keys {
+            rows.push(finish(key.values, columns, &mut parts)?)?;
         }
-        rows.reverse();
         Ok(rows)
     }
 }
 
-/// A group's values, and then what its parts give.
-fn finish(values: Row, parts: Vec<ColumnPart>) -> Result<Row, AllocError>
-    ensures ok { IfOk result (λ row. row ≡ values ++ map finished parts.items) }
+/// A group's values, and then what its parts give, so many of the next ones.
+fn finish(values: Row, columns: usize, parts: &mut IntoIter<Value>) -> Result<Row, AllocError>
+    ensures row { IfOk result (λ row. row ≡ values ++ take columns (into_iter_items parts.old)) }
+    ensures rest { OnOk result (into_iter_items parts.new ≡ drop columns (into_iter_items parts.old)) }
 {
     let mut row = values;
-    for part in parts {
-        row.push(part.finish())?;
+    for _ in 0..columns {
+        if let Some(part) = parts.next() {
+            row.push(part)?;
+        }
     }
     Ok(row)
 }
@@ -173,10 +164,10 @@ impl GroupMerge {
         let mut groups = Groups::new(alloc, hasher, aggregates, width)?;
         let mut parts = Vec::new(alloc);
         while let Some(row) = input.next(alloc)? {
-            groups.add(alloc, aggregates, width, row, &mut parts)?;
+            groups.add(aggregates, width, row, &mut parts)?;
         }
         Ok(GroupMerge {
-            rows: Rows::from_vec(groups.into_rows(alloc)?),
+            rows: Rows::from_vec(groups.into_rows(alloc, aggregates.len())?),
         })
     }
 }

@@ -2,7 +2,7 @@
 //! when the program starts, so that no client can choose values of one hash.
 ghost use Rattle.std.specs.Prelude.{◌≡◌, fold};
 ghost use Rattle.vt_value.specs.Values.{same_row};
-ghost use Rattle.aggregate.specs.Keys.{value_writes};
+ghost use Rattle.aggregate.specs.Keys.{number_writes, value_writes};
 
 use std::hash::{BuildHasher, DefaultHasher, Hash, Hasher};
 use vt_value::{Row, Value, sort_order};
@@ -28,16 +28,30 @@ fn same(a: &[Value], b: &[Value]) -> bool
     true
 }
 
+/// A number from 0 on below this is hashed as one word.
+const SMALL: i128 = 1 << 62;
+
+/// The word of 0, after those of all other kinds.
+const FIRST_SMALL: u64 = 3 << 62;
+
+fn hash_number<H: Hasher>(number: i128, state: &mut H)
+    ensures { state.new ≡ fold H.write state.old (number_writes number) }
+{
+    if 0 <= number && number < SMALL {
+        state.write_u64(FIRST_SMALL + number as u64);
+    } else {
+        state.write_u64(1);
+        state.write_i128(number);
+    }
+}
+
 // The first word tells the kind, and of a text its length: a keyed hasher takes all writes as one text, and rows that differ have to differ there.
 fn hash_value<H: Hasher>(value: &Value, state: &mut H)
     ensures { state.new ≡ fold H.write state.old (value_writes value.now) }
 {
     match value {
         Value::Null => state.write_u64(0),
-        Value::Int(number) => {
-            state.write_u64(1);
-            state.write_i128(*number);
-        }
+        Value::Int(number) => hash_number(*number, state),
         Value::Bytes(text) => {
             let text = text.as_slice();
             state.write_u64(2 + text.len() as u64);

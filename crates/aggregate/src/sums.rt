@@ -23,7 +23,8 @@ pub fn number(value: &Value) -> Option<i128>
     }
 }
 
-fn plus(a: Option<i128>, b: Option<i128>) -> Option<i128>
+/// The sum of two parts, of which `None` is that of no values.
+pub fn plus(a: Option<i128>, b: Option<i128>) -> Option<i128>
     requires { IfSome (join_options ◌+ℤ◌ a b) (λ n. FitsSigned w128 n) }
     ensures { result ≡ join_options ◌+ℤ◌ a b }
 {

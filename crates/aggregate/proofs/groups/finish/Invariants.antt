@@ -1,6 +1,10 @@
-use Rattle.std.proofs.Common.{◌≡◌, ◌++◌, map}
-use Rattle.aggregate.specs.inner.Columns.{finished}
+use Rattle.std.proofs.Common.{◌≡◌, ◌++◌, drop, take}
+use Rattle.std.specs.Vec.Iter.{into_iter_items}
 use Rattle.aggregate.proofs.groups.finish.Given as goal
 
-abbrev pub invariant-loop-part : goal.invariant-loop-part
-invariant-loop-part l = l.row ≡ l.fn.values ++ map finished l.yielded
+-- so many parts have come
+abbrev pub invariant-loop : goal.invariant-loop
+invariant-loop l = record {
+  row : l.row ≡ l.fn.values ++ take l.counter (into_iter_items l.fn.parts);
+  rest : into_iter_items l.parts ≡ drop l.counter (into_iter_items l.fn.parts);
+}

@@ -1,6 +1,6 @@
 use Rattle.std.proofs.Common.{[], ◌∷◌, ◌++◌, ap, sym, ◌∙◌, append_assoc, append-nil}
 use Rattle.aggregate.specs.Groups.{joined_rows}
-use Rattle.aggregate.specs.inner.Grouping.{key_values, part_lists}
+use Rattle.aggregate.specs.inner.Grouping.{key_values}
 use Rattle.aggregate.proofs.GroupingLemmas.{rows_given, begin_fits}
 use Rattle.aggregate.proofs.groups.GroupMerge.new.Goals as goal
 
@@ -27,6 +27,6 @@ returns g c =
           let none = rw c.in_default.is at c.in_ok-row.ensures.row in
           let all = sym (append-nil rows) ∙ ap (λ rest. rows ++ rest) (sym none.0) ∙ c.loop-parts.invariant.1 in
           c.from_vec.ensures ∙ c.in_ok-into_rows.ensures.ok
-          ∙ rows_given c.args.aggregates.now c.args.width rows (key_values c.loop-parts.groups) (part_lists c.loop-parts.groups) c.loop-parts.invariant.2
+          ∙ rows_given c.args.aggregates.now c.args.width rows (key_values c.loop-parts.groups) c.loop-parts.groups.parts.items c.loop-parts.invariant.2
           ∙ ap (joined_rows c.args.aggregates.now c.args.width) all);
     }

@@ -1,13 +1,10 @@
-use Rattle.std.proofs.Common.{◌≡◌, ◌++◌, map, length, reverse}
-use Rattle.aggregate.specs.inner.Grouping.{part_lists}
-use Rattle.aggregate.proofs.GroupLemmas.{made}
+use Rattle.std.proofs.Common.{◌≡◌, ◌++◌}
+use Rattle.std.specs.Vec.Iter.{into_iter_items}
+use Rattle.aggregate.specs.inner.Grouping.{key_values, finished_rows}
+use Rattle.aggregate.proofs.KeyListLemmas.{values_of_keys}
 use Rattle.aggregate.proofs.groups.Groups.into_rows.Given as goal
 
--- the rows of the groups that are left, and those that are made, are all
+-- the rows that are made, and those of the groups that are left, are all
 abbrev pub invariant-loop-key : goal.invariant-loop-key
 invariant-loop-key l =
-    (made l.keys.keys (map (λ p. p.items) l.parts.items) ++ reverse l.rows.items ≡ made l.fn.self.keys.keys (part_lists l.fn.self))
-    × (length l.keys.keys ≡ length l.parts.items)
-
-abbrev pub decreases-loop-key : goal.decreases-loop-key
-decreases-loop-key l = length l.keys.keys
+    l.rows.items ++ finished_rows l.columns (values_of_keys l.key-iterator) (into_iter_items l.parts) ≡ finished_rows l.columns (key_values l.fn.self) l.fn.self.parts.items

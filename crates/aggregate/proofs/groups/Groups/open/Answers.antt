@@ -1,35 +1,29 @@
-use Rattle.std.proofs.Common.{List, [], ◌∷◌, ◌++◌, sym, ap, ◌∙◌, map}
-use Rattle.std.proofs.lemmas.List.{map-append}
-use Rattle.aggregate.specs.declared.columns.ColumnPart.{ColumnPart}
-use Rattle.aggregate.specs.inner.Grouping.{part_lists}
+use Rattle.std.proofs.Common.{sym, ◌∙◌}
 use Rattle.aggregate.proofs.KeyListLemmas.{has_mapped, inserted_mapped, placed_mapped, distinct_mapped, with_new, with_old, not_true, not_false}
 use Rattle.aggregate.proofs.groups.Groups.open.Goals as goal
 
-pub returns-in_ok-push-clause-keys : goal.returns-in_ok-push-clause-keys
-returns-in_ok-push-clause-keys c = inserted_mapped (record { values = c.args.values }) _ _ c.in_ok-ordinal.ensures.keys
+pub returns-in_ok-push_empty_parts-clause-keys : goal.returns-in_ok-push_empty_parts-clause-keys
+returns-in_ok-push_empty_parts-clause-keys c = inserted_mapped (record { values = c.args.values }) _ _ c.in_ok-ordinal.ensures.keys
 
 pub returns-else-added-clause-keys : goal.returns-else-added-clause-keys
 returns-else-added-clause-keys c = inserted_mapped (record { values = c.args.values }) _ _ c.in_ok-ordinal.ensures.keys
 
-pub returns-in_ok-push-clause-ordinal : goal.returns-in_ok-push-clause-ordinal
-returns-in_ok-push-clause-ordinal c = placed_mapped (record { values = c.args.values }) c.insert_full.new.self.keys c.in_ok-ordinal.ordinal c.in_ok-ordinal.ensures.stored
+pub returns-in_ok-push_empty_parts-clause-ordinal : goal.returns-in_ok-push_empty_parts-clause-ordinal
+returns-in_ok-push_empty_parts-clause-ordinal c = placed_mapped (record { values = c.args.values }) c.insert_full.new.self.keys c.in_ok-ordinal.ordinal c.in_ok-ordinal.ensures.stored
 
 pub returns-else-added-clause-ordinal : goal.returns-else-added-clause-ordinal
 returns-else-added-clause-ordinal c = placed_mapped (record { values = c.args.values }) c.insert_full.new.self.keys c.in_ok-ordinal.ordinal c.in_ok-ordinal.ensures.stored
 
-pub returns-in_ok-push-clause-distinct : goal.returns-in_ok-push-clause-distinct
-returns-in_ok-push-clause-distinct c = distinct_mapped _ c.in_ok-ordinal.ensures.unique
+pub returns-in_ok-push_empty_parts-clause-distinct : goal.returns-in_ok-push_empty_parts-clause-distinct
+returns-in_ok-push_empty_parts-clause-distinct c = distinct_mapped _ c.in_ok-ordinal.ensures.unique
 
 pub returns-else-added-clause-distinct : goal.returns-else-added-clause-distinct
 returns-else-added-clause-distinct c = distinct_mapped _ c.in_ok-ordinal.ensures.unique
 
-pub returns-in_ok-push-clause-parts : goal.returns-in_ok-push-clause-parts
-returns-in_ok-push-clause-parts c =
-    let lists = part_lists c.args.self.now in
+pub returns-in_ok-push_empty_parts-clause-parts : goal.returns-in_ok-push_empty_parts-clause-parts
+returns-in_ok-push_empty_parts-clause-parts c =
     let new = not_true _ (sym c.if-added.true ∙ c.in_ok-ordinal.ensures.added) in
-    ap (map (λ p. p.items)) c.in_ok-push.ensures.items ∙ map-append (λ p. p.items) c.args.self.now.parts.items _
-    ∙ ap (λ (p : List ColumnPart). lists ++ p ∷ []) c.in_ok-empty_parts.ensures.ok
-    ∙ with_new _ _ _ (sym (has_mapped (record { values = c.args.values }) c.args.self.now.keys.keys) ∙ new)
+    c.in_ok-push_empty_parts.ensures.ok ∙ with_new _ _ _ (sym (has_mapped (record { values = c.args.values }) c.args.self.now.keys.keys) ∙ new)
 
 pub returns-else-added-clause-parts : goal.returns-else-added-clause-parts
 returns-else-added-clause-parts c =
