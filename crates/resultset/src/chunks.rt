@@ -13,7 +13,6 @@ use bytes::BytesMut;
 use mysql_message::numbers::{make_room, put_bytes};
 use std::alloc::{AllocError, Global};
 use std::marker::Model;
-use std::mem;
 use vt_value::Items;
 
 /// The most bytes of a chunk.
@@ -134,7 +133,8 @@ impl Filling {
         (Chunks { chunks: full }, last)
     }
 
-    /// Appends bytes. Refuses only for want of memory.
+    /// Appends bytes. A full chunk is copied, and the buffer that it was made in is used again: the next one is then made where the processor's
+    /// caches are. Refuses only for want of memory.
     pub(crate) fn append(&mut self, alloc: Global, bytes: &[u8]) -> Result<(), AllocError>
         ensures ok { OnOk result (self.new ≡ self.old ++ bytes.now) }
     {
@@ -142,9 +142,9 @@ impl Filling {
         while rest.len() > CHUNK_LIMIT - self.last.len() {
             let (front, more) = rest.split_at(CHUNK_LIMIT - self.last.len());
             self.last.extend_from_slice(front)?;
-            let next = BytesMut::with_capacity(alloc, CHUNK_LIMIT)?;
-            let full = mem::replace(&mut self.last, next).into_vec()?;
-            self.full.push(Items::from_vec(full))?;
+            let full = Items::from_slice(alloc, self.last.as_slice())?;
+            self.full.push(full)?;
+            self.last.clear();
             rest = more;
         }
         self.last.extend_from_slice(rest)?;

@@ -6,39 +6,23 @@ use Rattle.std.proofs.Math.Dec.{eqb-suc-zero}
 use Rattle.std.proofs.lemmas.List.{map-append, length-take}
 use Rattle.std.proofs.lemmas.List.Elements.{filter-append}
 use Rattle.std.proofs.lemmas.List.Sorted.{IsPermutation-refl, IsPermutation-sym, IsPermutation-map}
-use Rattle.vt_value.specs.declared.value.Value.{Value}
 use Rattle.vt_value.specs.Values.{Row, value_at, same_row}
 use Rattle.sql_tree.specs.declared.Item.{Item}
-use Rattle.sql_tree.specs.declared.Item.TheVariants.{Column, CountRows, Count, Sum, Min, Max}
 use Rattle.operators.proofs.SliceLemmas.{drop_next}
-use Rattle.aggregate.specs.declared.columns.ColumnPart.TheVariants.{Number, Total, Least, Greatest}
-use Rattle.aggregate.specs.inner.Columns.{column_part, finished}
 use Rattle.aggregate.specs.inner.Grouping.{has_row}
 use Rattle.aggregate.specs.Groups.{distinct, joined_part, joined_parts, of_group, group_keys, joined_rows}
-use Rattle.aggregate.specs.inner.ExtremeLemmas.{min_laws, max_laws}
-use Rattle.aggregate.specs.inner.SumLemmas.{sum_laws}
 use Rattle.aggregate.proofs.DistinctLemmas.{none_of, has_distinct}
-use Rattle.aggregate.proofs.PartsOfRows.{column_gives}
+use Rattle.aggregate.proofs.PartsOfRows.{column_permuted}
 use Rattle.aggregate.proofs.SplitLemmas.{together, joined_again}
 use Rattle.sql_eval.proofs.GroupLemmas.{at_drop, distinct_all, take_join, drop_join}
 use Rattle.sql_eval.proofs.Permutations.{IsPermutation-filter}
 use Rattle.sql_eval.proofs.DistinctRows.{distinct_is, distinct_parts, only, distinct_permuted}
 
 -- the order of parts says nothing
-column_permuted : (a : Item ℕ) (vs ws : List Value) → IsPermutation vs ws → column_part a vs ≡ column_part a ws
-column_permuted (Column c) vs ws h = refl
-column_permuted CountRows vs ws h = ap Number (sum_laws.bag vs ws h)
-column_permuted (Count c) vs ws h = ap Number (sum_laws.bag vs ws h)
-column_permuted (Sum c) vs ws h = ap Total (sum_laws.bag vs ws h)
-column_permuted (Min c) vs ws h = ap Least (min_laws.bag vs ws h)
-column_permuted (Max c) vs ws h = ap Greatest (max_laws.bag vs ws h)
-
 parts_permuted : (aggregates : List (Item ℕ)) (n : ℕ) (xs ys : List Row) → IsPermutation xs ys → joined_parts aggregates n xs ≡ joined_parts aggregates n ys
 parts_permuted [] n xs ys h = refl
 parts_permuted (a ∷ aggregates) n xs ys h =
-    let vs = map (λ r. value_at r n) xs in
-    let ws = map (λ r. value_at r n) ys in
-    let first = sym (column_gives a vs) ∙ ap finished (column_permuted a vs ws (IsPermutation-map (λ r. value_at r n) xs ys h)) ∙ column_gives a ws in
+    let first = column_permuted a (map (λ r. value_at r n) xs) (map (λ r. value_at r n) ys) (IsPermutation-map (λ r. value_at r n) xs ys h) in
     λ i. first i ∷ parts_permuted aggregates (n + 1) xs ys h i
 
 pub some_keys : (w : ℕ) (rows : List Row) → group_keys (suc w) rows ≡ distinct (map (take (suc w)) rows)

@@ -1,6 +1,7 @@
 //! The groups of aggregated queries.
 ghost use Rattle.std.specs.Prelude.{◌≡◌, IfOk, map, filter, length, unwrap_or};
 ghost use Rattle.aggregate.specs.Groups.{AreSummable};
+ghost use Rattle.vt_value.specs.Values.{value_at};
 ghost use Rattle.vschema.specs.Checks.{is_aggregate};
 ghost use Rattle.vschema.specs.FirstOrdinals.{first_ordinal};
 ghost use Rattle.sql_eval.specs.Conditions.{is_kept};
@@ -11,7 +12,7 @@ use crate::filters::Filter;
 use crate::rows::value_at;
 use crate::source::{RowSource, next_passing};
 use aggregate::GroupMerge;
-use operators::{Operator, collect, project_row};
+use operators::{Operator, collect};
 use sql_tree::{Item, Key};
 use std::alloc::{AllocError, Global};
 use vschema::{FirstOrdinals, Hashing, Query};
@@ -107,6 +108,14 @@ fn one_of(value: &Value) -> Value
     }
 }
 
+/// A copy of the value of a row at an ordinal, NULL after its end.
+fn copy_at(alloc: Global, row: &Row, ordinal: usize) -> Result<Value, AllocError>
+    ensures ok { IfOk result (λ value. value ≡ value_at row.now ordinal) }
+{
+    let null = Value::Null;
+    copy(alloc, value_at(row, ordinal, &null))
+}
+
 /// The part of an aggregate that a row is.
 fn part_value(alloc: Global, row: &Row, aggregate: &Item<usize>) -> Result<Value, AllocError>
     ensures ok { IfOk result (λ value. value ≡ row_part row.now aggregate.now) }
@@ -117,7 +126,7 @@ fn part_value(alloc: Global, row: &Row, aggregate: &Item<usize>) -> Result<Value
         Item::CountRows => Ok(Value::Int(1)),
         Item::Count(ordinal) => Ok(one_of(value_at(row, *ordinal, &null))),
         Item::Sum(ordinal) | Item::Min(ordinal) | Item::Max(ordinal) => {
-            copy(alloc, value_at(row, *ordinal, &null))
+            copy_at(alloc, row, *ordinal)
         }
     }
 }
@@ -130,7 +139,11 @@ fn part_row(
 ) -> Result<Row, AllocError>
     ensures ok { IfOk result (λ part. part ≡ part_row columns.now aggregates.now row.now) }
 {
-    let mut part = project_row(alloc, columns, row)?;
+    let room = columns.len() + aggregates.len();
+    let mut part = Items::from_vec(Vec::with_capacity(alloc, room)?);
+    for column in columns {
+        part.push(copy_at(alloc, row, *column)?)?;
+    }
     for aggregate in aggregates {
         part.push(part_value(alloc, row, aggregate)?)?;
     }

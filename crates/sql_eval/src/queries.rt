@@ -15,7 +15,7 @@ use crate::filters::Filter;
 use crate::groups::{Grouping, Parts, group_columns, group_order, shown_ordinal};
 use crate::ordered::{ordered, ordered_front};
 use crate::source::{RowSource, SliceRows, kept_count, shown};
-use operators::{Limit, Project, Rows, collect, project_row, sort_rows};
+use operators::{Limit, Project, Rows, collect, project_row, shows_whole, sort_rows};
 use sql_tree::{Condition, Item, Key};
 use std::alloc::{AllocError, Global};
 use vschema::Query;
@@ -43,6 +43,18 @@ fn project_rows(alloc: Global, rows: &[Row], ordinals: &[usize]) -> Result<Items
     Ok(list)
 }
 
+/// Whether each row is shown as it is.
+fn are_whole(ordinals: &[usize], rows: &[Row]) -> bool
+    ensures { IsTrue result → map (columns_of ordinals.now) rows.now ≡ rows.now }
+{
+    for row in rows {
+        if !shows_whole(ordinals, row) {
+            return false;
+        }
+    }
+    true
+}
+
 /// What is shown of rows: the slice that `limit` leaves of them in an order that the keys allow, each by the columns at these ordinals.
 /// Refuses only for want of memory.
 pub fn show(
@@ -54,6 +66,9 @@ pub fn show(
 ) -> Result<Items<Row>, AllocError>
     ensures ok { IfOk result (IsSortedSlice keys.now limit ordinals rows) }
 {
+    if keys.is_empty() && limit.is_none() && are_whole(ordinals.as_slice(), rows.as_slice()) {
+        return Ok(rows);
+    }
     let sorted = sort_rows(alloc, rows, keys)?;
     // of many rows each goes once it is copied
     if limit.is_none() && sorted.len() < 2 {
