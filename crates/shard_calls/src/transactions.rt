@@ -12,7 +12,7 @@ ghost use Rattle.shard_calls.specs.Pendings.{bound_of};
 ghost use Rattle.shard_calls.specs.inner.InTransactions.{ends, closes, stays_open, HasReadAt, IsNotReadAt, HasWrittenAt, IsNotWrittenAt, HasCommittedAt, IsNotCommittedAt};
 
 use crate::reply::{Reply, ShardRead};
-use crate::tx::Bound;
+use crate::tx::{Bound, OpenTx};
 use journal::Naming;
 use operators::ShownRows;
 use shard::{Pending, Reading, ShardPass, World};
@@ -100,29 +100,26 @@ pub fn read_at<W: World, J: Naming>(
 }
 
 // What a query gives on the shard of a transaction that is bound to it then.
-// The clauses tell what became of the pass and the transaction, which are lent one by one.
 pub fn read_first<W: World, J: Naming>(
     rt: &impl Wait,
     alloc: Global,
     pass: &mut ShardPass<W, J>,
-    bound: &mut Option<Bound<W, J>>,
+    tx: &mut OpenTx<W, J>,
     new: Bound<W, J>,
-    pending: &mut Pending,
     query: &Narrowed,
 ) -> Result<(ShownRows, Items<ShardRead>), Refusal>
     requires there { SourcesThere (length W.opening.schema.tables) query.now }
-    requires tied { (s : which.ShardRecord) → bound_of s new.seats ≡ new → IsPendingOf W.opening s pending.old pass.old }
+    requires tied { (s : which.ShardRecord) → bound_of s new.seats ≡ new → IsPendingOf W.opening s tx.old.pending pass.old }
     requires session { IsSome pass.old.session }
     requires above { (n : ℕ) → pass.old.session ≡ Some n → NumbersBelow commit_of n pass.old.statements pass.old.seen }
-    ensures ok { IfOk result (λ r. HasReadAt W.opening new pass.old pending.old query.now r.0 r.1 pass.new pending.new) }
-    ensures now_bound { OnOk result (bound.new ≡ Some new) }
-    ensures err { IfErr result (λ e. IsNotReadAt W.opening new pass.old pending.old e pass.new) }
-    ensures unchanged { OnErr result (pending.new ≡ pending.old) }
-    ensures unbound { OnErr result (bound.new ≡ bound.old) }
+    ensures ok { IfOk result (λ r. HasReadAt W.opening new pass.old tx.old.pending query.now r.0 r.1 pass.new tx.new.pending) }
+    ensures now_bound { OnOk result (tx.new.bound ≡ Some new) }
+    ensures err { IfErr result (λ e. IsNotReadAt W.opening new pass.old tx.old.pending e pass.new) }
+    ensures unchanged { OnErr result (tx.new ≡ tx.old) }
 {
-    match read_at(rt, alloc, pass, &new, pending, query) {
+    match read_at(rt, alloc, pass, &new, &mut tx.pending, query) {
         Ok(given) => {
-            *bound = Some(new);
+            tx.bound = Some(new);
             Ok(given)
         }
         Err(refusal) => {
@@ -173,23 +170,21 @@ pub fn write_first<W: World, J: Naming>(
     rt: &impl Wait,
     alloc: Global,
     pass: &mut ShardPass<W, J>,
-    bound: &mut Option<Bound<W, J>>,
+    tx: &mut OpenTx<W, J>,
     new: Bound<W, J>,
-    pending: &mut Pending,
     schema: &VSchema,
     write: Write,
 ) -> Result<u64, Refusal>
     requires schema { schema.now ≡ W.opening.schema }
     requires there { written_table write < length W.opening.schema.tables }
-    ensures ok { IfOk result (λ count. HasWrittenAt W.opening new pass.old pending.old write count pass.new pending.new) }
-    ensures now_bound { OnOk result (bound.new ≡ Some new) }
-    ensures err { IfErr result (λ e. IsNotWrittenAt W.opening new pass.old pending.old write e pass.new) }
-    ensures unchanged { OnErr result (pending.new ≡ pending.old) }
-    ensures unbound { OnErr result (bound.new ≡ bound.old) }
+    ensures ok { IfOk result (λ count. HasWrittenAt W.opening new pass.old tx.old.pending write count pass.new tx.new.pending) }
+    ensures now_bound { OnOk result (tx.new.bound ≡ Some new) }
+    ensures err { IfErr result (λ e. IsNotWrittenAt W.opening new pass.old tx.old.pending write e pass.new) }
+    ensures unchanged { OnErr result (tx.new ≡ tx.old) }
 {
-    match write_at(rt, alloc, pass, &new, pending, schema, write) {
+    match write_at(rt, alloc, pass, &new, &mut tx.pending, schema, write) {
         Ok(count) => {
-            *bound = Some(new);
+            tx.bound = Some(new);
             Ok(count)
         }
         Err(refusal) => {
