@@ -1,5 +1,5 @@
 //! Admin lines over the engine.
-ghost use Rattle.std.specs.Prelude.{◌≡◌, ℕ, Some, None, MatchOption};
+ghost use Rattle.std.specs.Prelude.{◌≡◌, ℕ, Some, IfSome, MatchOption};
 ghost use Rattle.follow.specs.Steps.{IsOnward};
 ghost use Rattle.opening.specs.Empty.{sharded_keyspace};
 ghost use Rattle.admin.specs.AdminAnswers.{IsAdminReply, keyspace_of};
@@ -8,22 +8,27 @@ use crate::administrator::Administrator;
 use crate::reply::AdminReply;
 use journal::Naming;
 use opening::sharded_keyspace;
+use reshard::WorkflowContext;
 use route_engine::{Engine, Gate};
-use serving::Serving;
-use shard::{Shard, ShardPass, World};
+use shard::{ShardPass, World};
 use std::alloc::Global;
 use std::sync::Wait;
 
-// The partitions of the sharded keyspace, if there is one.
-fn sharded_partitions<W: World + Send + Sync, J: Naming + Send + Sync, G: Gate>(
+// What a workflow of the sharded keyspace works on, if there is such a keyspace.
+fn workflow_context<W: World + Send + Sync, J: Naming + Send + Sync, G: Gate>(
     engine: &Engine<W, J, G>,
-) -> Option<&Serving<Shard<W, J>>>
-    ensures some { (k : ℕ) → sharded_keyspace engine.now ≡ Some k → MatchOption result ⊥ (λ s. s.now ≡ k) }
+) -> Option<WorkflowContext<'_, W, J>>
+    ensures some { (k : ℕ) → sharded_keyspace engine.now ≡ Some k → MatchOption result ⊥ (λ c. c.serving.now ≡ k) }
+    ensures schema { IfSome result (λ c. c.schema.now ≡ W.opening.schema) }
 {
-    match sharded_keyspace(engine.schema()) {
-        Some(keyspace) => engine.partitions(keyspace),
-        None => None,
-    }
+    let schema = engine.schema();
+    let keyspace = sharded_keyspace(schema)?;
+    let serving = engine.partitions(keyspace)?;
+    Some(WorkflowContext {
+        schema,
+        serving,
+        buffer: engine.buffer(),
+    })
 }
 
 /// Answers an admin line over the engine's sharded keyspace, which the administrator is that of.
@@ -40,14 +45,5 @@ pub fn administer<W: World + Send + Sync, J: Naming + Send + Sync, G: Gate>(
     ensures keyspace { keyspace_of administrator.new ≡ keyspace_of administrator.old }
     ensures onward { IsOnward W.opening pass.old pass.new }
 {
-    let serving = sharded_partitions(engine);
-    administrator.answer(
-        rt,
-        alloc,
-        pass,
-        engine.schema(),
-        serving,
-        engine.buffer(),
-        words,
-    )
+    administrator.answer(rt, alloc, pass, workflow_context(engine), words)
 }

@@ -9,15 +9,12 @@ ghost use Rattle.admin.specs.AdminAnswers.{IsAnswered, IsAnsweredWithout};
 use crate::calls::{advance, cancel, complete, create, resume, step, switch};
 use crate::reply::AdminReply;
 use crate::status::{empty_status, status};
-use buffer::Buffer;
 use journal::Naming;
-use reshard::{ReshardFault, Workflow};
-use serving::Serving;
-use shard::{Shard, ShardPass, World};
+use reshard::{Replacement, ReshardFault, Workflow, WorkflowContext};
+use shard::{ShardPass, World};
 use std::alloc::Global;
 use std::marker::Model;
 use std::sync::Wait;
-use vschema::VSchema;
 use vt_value::Refusal;
 use vtgate_lines::{AdminLine, read_admin_line};
 
@@ -27,21 +24,19 @@ fn refused(fault: ReshardFault) -> AdminReply
     AdminReply::Refused(fault)
 }
 
-// Answers a line over a workflow. It is handed what a workflow's own calls take.
+// Answers a line over a workflow.
 fn answer_over<W: World, J: Naming>(
     workflow: &mut Workflow<W, J>,
     rt: &impl Wait,
     alloc: Global,
     pass: &mut ShardPass<W, J>,
-    schema: &VSchema,
-    serving: &Serving<Shard<W, J>>,
-    buffer: &Buffer,
+    context: &WorkflowContext<'_, W, J>,
     words: &[u8],
 ) -> AdminReply
-    requires schema { schema.now ≡ W.opening.schema }
+    requires schema { context.now.schema.now ≡ W.opening.schema }
     requires formed { IsTrue (is_vschema W.opening.schema) }
     requires legal { IsLegal (MayFollow W.opening) pass.old.seen }
-    requires home { serving.now ≡ workflow.old.keyspace }
+    requires home { context.now.serving.now ≡ workflow.old.keyspace }
     ensures answered { IsAnswered W.opening W.limits words.now workflow.old workflow.new pass.old pass.new result }
     ensures onward { IsOnward W.opening pass.old pass.new }
 {
@@ -50,17 +45,19 @@ fn answer_over<W: World, J: Naming>(
         Err(_) => return refused(ReshardFault::Refused(Refusal::OutOfMemory)),
     };
     match line {
-        AdminLine::Status => status(alloc, workflow, serving),
+        AdminLine::Status => status(alloc, workflow, context.serving),
         AdminLine::Create(sources, targets) => {
-            create(
-                workflow, rt, alloc, pass, schema, serving, &sources, &targets,
-            )
+            let replacement = Replacement {
+                sources: &sources,
+                targets: &targets,
+            };
+            create(workflow, rt, alloc, pass, context, &replacement)
         }
-        AdminLine::Step => step(workflow, rt, alloc, pass, schema),
-        AdminLine::Switch => switch(workflow, rt, alloc, pass, schema, serving, buffer),
-        AdminLine::Advance => advance(workflow, rt, alloc, pass, schema, serving, buffer),
-        AdminLine::Resume => resume(workflow, rt, pass, schema, serving, buffer),
-        AdminLine::Cancel => cancel(workflow, rt, pass, buffer),
+        AdminLine::Step => step(workflow, rt, alloc, pass, context.schema),
+        AdminLine::Switch => switch(workflow, rt, alloc, pass, context),
+        AdminLine::Advance => advance(workflow, rt, alloc, pass, context),
+        AdminLine::Resume => resume(workflow, rt, pass, context),
+        AdminLine::Cancel => cancel(workflow, rt, pass, context.buffer),
         AdminLine::Complete => complete(workflow, rt, pass),
         AdminLine::Unknown => AdminReply::Unknown,
     }
@@ -128,21 +125,18 @@ impl<W: World, J: Naming> Administrator<W, J> {
     }
 
     /// Reads the words of an admin line, does what they ask for, and tells what was done, or why it wasn't. If there is no memory to
-    /// read them, the workflow stands as it stood. The partitions are those of the sharded keyspace, if there is one. They come one by one with
-    /// the VSchema and the buffer, as the calls of a workflow take them.
+    /// read them, the workflow stands as it stood. The context is that of the sharded keyspace, if there is one.
     pub fn answer(
         &mut self,
         rt: &impl Wait,
         alloc: Global,
         pass: &mut ShardPass<W, J>,
-        schema: &VSchema,
-        serving: Option<&Serving<Shard<W, J>>>,
-        buffer: &Buffer,
+        context: Option<WorkflowContext<'_, W, J>>,
         words: &[u8],
     ) -> AdminReply
-        requires schema { schema.now ≡ W.opening.schema }
+        requires schema { IfSome context (λ c. c.schema.now ≡ W.opening.schema) }
         requires formed { IsTrue (is_vschema W.opening.schema) }
-        requires home { IfSome self.old (λ w. MatchOption serving ⊥ (λ s. s.now ≡ w.keyspace)) }
+        requires home { IfSome self.old (λ w. MatchOption context ⊥ (λ c. c.serving.now ≡ w.keyspace)) }
         ensures told { IsAdminReply W.opening W.limits words.now pass.old pass.new result self.old self.new }
         ensures keyspace { keyspace_of self.new ≡ keyspace_of self.old }
         ensures onward { IsOnward W.opening pass.old pass.new }
@@ -151,9 +145,9 @@ impl<W: World, J: Naming> Administrator<W, J> {
         let Some(workflow) = &mut self.workflow else {
             return answer_without(alloc, words);
         };
-        let Some(serving) = serving else {
+        let Some(context) = context else {
             return answer_without(alloc, words);
         };
-        answer_over(workflow, rt, alloc, pass, schema, serving, buffer, words)
+        answer_over(workflow, rt, alloc, pass, &context, words)
     }
 }

@@ -12,32 +12,29 @@ use crate::reply::AdminReply;
 use buffer::Buffer;
 use journal::Naming;
 use keyrange::KeyRange;
-use reshard::Workflow;
-use serving::Serving;
-use shard::{Shard, ShardPass, World};
+use reshard::{Replacement, Workflow, WorkflowContext};
+use shard::{ShardPass, World};
 use std::alloc::Global;
 use std::sync::Wait;
 use vschema::VSchema;
 
-/// Begins a workflow. It is handed what `Workflow::create` takes.
+/// Begins a workflow.
 pub(crate) fn create<W: World, J: Naming>(
     workflow: &mut Workflow<W, J>,
     rt: &impl Wait,
     alloc: Global,
     pass: &mut ShardPass<W, J>,
-    schema: &VSchema,
-    serving: &Serving<Shard<W, J>>,
-    sources: &[KeyRange],
-    targets: &[KeyRange],
+    context: &WorkflowContext<'_, W, J>,
+    replacement: &Replacement<'_, KeyRange>,
 ) -> AdminReply
-    requires schema { schema.now ≡ W.opening.schema }
+    requires schema { context.now.schema.now ≡ W.opening.schema }
     requires legal { IsLegal (MayFollow W.opening) pass.old.seen }
-    requires home { serving.now ≡ workflow.old.keyspace }
-    requires named { AllByRecursion IsNamed targets.now }
-    ensures created { HasCreated W.opening sources.now targets.now workflow.old workflow.new pass.old pass.new result }
+    requires home { context.now.serving.now ≡ workflow.old.keyspace }
+    requires named { AllByRecursion IsNamed replacement.now.targets.now }
+    ensures created { HasCreated W.opening replacement.now.sources.now replacement.now.targets.now workflow.old workflow.new pass.old pass.new result }
     ensures onward { IsOnward W.opening pass.old pass.new }
 {
-    match workflow.create(rt, alloc, pass, schema, serving, sources, targets) {
+    match workflow.create(rt, alloc, pass, context, replacement) {
         Ok(()) => AdminReply::Done,
         Err(fault) => AdminReply::Refused(fault),
     }
@@ -63,47 +60,43 @@ pub(crate) fn step<W: World, J: Naming>(
     }
 }
 
-/// Takes all steps of the cutover. It is handed what `Workflow::switch_traffic` takes.
+/// Takes all steps of the cutover.
 pub(crate) fn switch<W: World, J: Naming>(
     workflow: &mut Workflow<W, J>,
     rt: &impl Wait,
     alloc: Global,
     pass: &mut ShardPass<W, J>,
-    schema: &VSchema,
-    serving: &Serving<Shard<W, J>>,
-    buffer: &Buffer,
+    context: &WorkflowContext<'_, W, J>,
 ) -> AdminReply
-    requires schema { schema.now ≡ W.opening.schema }
+    requires schema { context.now.schema.now ≡ W.opening.schema }
     requires formed { IsTrue (is_vschema W.opening.schema) }
     requires legal { IsLegal (MayFollow W.opening) pass.old.seen }
-    requires home { serving.now ≡ workflow.old.keyspace }
+    requires home { context.now.serving.now ≡ workflow.old.keyspace }
     ensures cut_over { HasCutOver W.opening W.limits workflow.old workflow.new pass.old pass.new result }
     ensures onward { IsOnward W.opening pass.old pass.new }
 {
-    match workflow.switch_traffic(rt, alloc, pass, schema, serving, buffer) {
+    match workflow.switch_traffic(rt, alloc, pass, context) {
         Ok(()) => AdminReply::Done,
         Err(fault) => AdminReply::Refused(fault),
     }
 }
 
-/// Takes one step of the cutover. It is handed what `Workflow::switch_step` takes.
+/// Takes one step of the cutover.
 pub(crate) fn advance<W: World, J: Naming>(
     workflow: &mut Workflow<W, J>,
     rt: &impl Wait,
     alloc: Global,
     pass: &mut ShardPass<W, J>,
-    schema: &VSchema,
-    serving: &Serving<Shard<W, J>>,
-    buffer: &Buffer,
+    context: &WorkflowContext<'_, W, J>,
 ) -> AdminReply
-    requires schema { schema.now ≡ W.opening.schema }
+    requires schema { context.now.schema.now ≡ W.opening.schema }
     requires formed { IsTrue (is_vschema W.opening.schema) }
     requires legal { IsLegal (MayFollow W.opening) pass.old.seen }
-    requires home { serving.now ≡ workflow.old.keyspace }
+    requires home { context.now.serving.now ≡ workflow.old.keyspace }
     ensures advanced { HasAdvanced W.opening W.limits workflow.old workflow.new pass.old pass.new result }
     ensures onward { IsOnward W.opening pass.old pass.new }
 {
-    match workflow.switch_step(rt, alloc, pass, schema, serving, buffer) {
+    match workflow.switch_step(rt, alloc, pass, context) {
         Ok(step) => AdminReply::Took(step),
         Err(fault) => AdminReply::Refused(fault),
     }
@@ -114,17 +107,15 @@ pub(crate) fn resume<W: World, J: Naming>(
     workflow: &mut Workflow<W, J>,
     rt: &impl Wait,
     pass: &mut ShardPass<W, J>,
-    schema: &VSchema,
-    serving: &Serving<Shard<W, J>>,
-    buffer: &Buffer,
+    context: &WorkflowContext<'_, W, J>,
 ) -> AdminReply
-    requires schema { schema.now ≡ W.opening.schema }
+    requires schema { context.now.schema.now ≡ W.opening.schema }
     requires legal { IsLegal (MayFollow W.opening) pass.old.seen }
-    requires home { serving.now ≡ workflow.old.keyspace }
+    requires home { context.now.serving.now ≡ workflow.old.keyspace }
     ensures resumed { HasResumed W.opening workflow.old workflow.new pass.old pass.new result }
     ensures onward { IsOnward W.opening pass.old pass.new }
 {
-    match workflow.resume(rt, pass, schema, serving, buffer) {
+    match workflow.resume(rt, pass, context) {
         Ok(_) => AdminReply::Done,
         Err(fault) => AdminReply::Refused(fault),
     }

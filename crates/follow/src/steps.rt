@@ -1,8 +1,6 @@
 //! One step: a look at the target, then one at the source, then, if something is left, an entry of the target. The target's lock is held for
 //! the whole step, and the source's for the look at it, so that the target is as it was when the entry comes. Locks are taken in this order
-//! alone, target before source, and a target never is a source of its own sources, so no two steps wait for each other. A lock can't tell
-//! which shard it holds, so that is tested before the first look; if it is another, which no run of one controller meets, the lock is taken
-//! again.
+//! alone, target before source, and a target never is a source of its own sources, so no two steps wait for each other.
 ghost use Rattle.std.specs.Prelude.{◌≡◌, ◌⊎◌, ◌<◌, ◌≤◌, ◌^◌, true, Some, IsTrue, IfOk, IfErr, IfSome, OnOk, OnErr, MatchOption, Contains, map};
 ghost use Rattle.std.specs.List.{AllByRecursion};
 ghost use Rattle.vschema.specs.WellFormed.{is_vschema};
@@ -18,10 +16,11 @@ ghost use Rattle.follow.specs.Steps.{IsOnward, HasMoved, HasMovedWith, IsFull};
 ghost use Rattle.follow.specs.Turns.{IsOneStep, IsOneStepWith, IsNoStep, IsNoStepWith};
 ghost use Rattle.follow.specs.inner.NextEntries.{IsNextForTarget, IsOneLook, NoneLeft, IsNextEntry, IsTakeable, HasTaken};
 
+use crate::modes::{answers, follows};
 use crate::workflow_shard::WorkflowShard;
 use journal::Naming;
 use shard::{ShardPass, ShardState, World};
-use shard_run::{Copied, Follow, Mode, ShardRecord};
+use shard_run::{Copied, Follow, Mode};
 use std::alloc::{AllocError, Global};
 use std::sync::Wait;
 use vschema::{Place, VSchema};
@@ -44,19 +43,6 @@ enum NextEntry {
     Entry(Follow),
     Rows(Copied),
     Nothing,
-}
-
-// Whether the state is the target's, and it follows.
-fn follows<W: World, J: Naming>(state: &ShardState<W, J>, target: &ShardRecord) -> bool
-    ensures { result ≡ true → (state.now.shard ≡ target.now) × (mode W.opening state.now.seen state.now.shard.slot ≡ Mode.Following) }
-{
-    state.is(target) && state.mode() == Mode::Following
-}
-
-fn serves<W: World, J: Naming>(state: &ShardState<W, J>) -> bool
-    ensures { result ≡ true → answers_queries (mode W.opening state.now.seen state.now.shard.slot) ≡ true }
-{
-    matches!(state.mode(), Mode::Serving | Mode::Frozen)
 }
 
 // The entry that is next for a target, if one is left.
@@ -112,34 +98,7 @@ fn next_for<W: World, J: Naming>(
     }
 }
 
-// What the source has for the target, if the state is the source's and it serves.
-fn try_next_for<W: World, J: Naming>(
-    state: &mut ShardState<W, J>,
-    alloc: Global,
-    pass: &mut ShardPass<W, J>,
-    schema: &VSchema,
-    source: &ShardRecord,
-    target: &ShardState<W, J>,
-) -> Result<Option<NextEntry>, AllocError>
-    requires schema { schema.now ≡ W.opening.schema }
-    requires formed { IsTrue (is_vschema W.opening.schema) }
-    requires legal { IsLegal (MayFollow W.opening) pass.old.seen }
-    requires follows { mode W.opening target.now.seen target.now.shard.slot ≡ Mode.Following }
-    requires came { IsLegal (MayFollow W.opening) target.now.seen }
-    ensures given { IfOk result (λ r. IfSome r (IsNextForTarget W.opening pass.new.seen source.now target.now)) }
-    ensures looked { IfOk result (λ r. MatchOption r (pass.new ≡ pass.old) (λ _. IsOneLook source.now.slot pass.old pass.new)) }
-    ensures refused { OnErr result (IsOneLook source.now.slot pass.old pass.new) }
-    ensures onward { IsOnward W.opening pass.old pass.new }
-{
-    if !(state.is(source) && serves(state)) {
-        return Ok(None);
-    }
-    let _ = state.look(pass);
-    let given = next_for(state, alloc, schema, target)?;
-    Ok(Some(given))
-}
-
-// What the source gives, asked under its lock; it tries until the source serves.
+// What the source gives at a look under its lock, once it serves.
 fn next_from<W: World, J: Naming>(
     rt: &impl Wait,
     alloc: Global,
@@ -157,20 +116,12 @@ fn next_from<W: World, J: Naming>(
     ensures looked { IsOneLook source.now.which.slot pass.old pass.new }
     ensures onward { IsOnward W.opening pass.old pass.new }
 {
-    for _ in rt.forever() {
-        let given = try_next_for(
-            &mut source.shard.lock(rt),
-            alloc,
-            pass,
-            schema,
-            &source.which,
-            target,
-        )?;
-        if let Some(given) = given {
-            return Ok(given);
-        }
-    }
-    unreachable!()
+    let mut state = source
+        .shard
+        .state()
+        .lock_when(rt, |state| state.is(&source.which) && answers(state));
+    let _ = state.look(pass);
+    next_for(&mut state, alloc, schema, target)
 }
 
 // Follows the entry that is next for the target.
@@ -276,37 +227,6 @@ fn come_forward<W: World, J: Naming>(
     take(state, alloc, pass, schema, given)
 }
 
-// A step, if the state is the target's and it follows.
-// The clauses tell what became of the pass and the target's state, which are lent one by one.
-fn try_step<W: World, J: Naming>(
-    rt: &impl Wait,
-    alloc: Global,
-    pass: &mut ShardPass<W, J>,
-    schema: &VSchema,
-    source: &WorkflowShard<W, J>,
-    target: &ShardRecord,
-    state: &mut ShardState<W, J>,
-) -> Result<Option<Step>, Refusal>
-    requires opens { IsOpening W.opening }
-    requires schema { schema.now ≡ W.opening.schema }
-    requires formed { IsTrue (is_vschema W.opening.schema) }
-    requires of_source { Contains target.now.sources source.now.which.slot }
-    requires legal { IsLegal (MayFollow W.opening) pass.old.seen }
-    ensures moved { IfOk result (λ r. IfSome r (HasMoved W.opening source.now.which target.now pass.old pass.new)) }
-    ensures once { IfOk result (λ r. MatchOption r (pass.new ≡ pass.old) (IsOneStep source.now.which target.now pass.old pass.new)) }
-    ensures copied_within { IfOk result (λ r. r ≡ Some Step.Copied → row_count (shard_rows W.opening pass.new.seen target.now) ≤ W.limits.rows) }
-    ensures followed_within { IfOk result (λ r. r ≡ Some Step.Followed → SourcesApart W.opening pass.new.seen target.now → row_count (shard_rows W.opening pass.new.seen target.now) ≤ W.limits.rows) }
-    ensures nothing { OnErr result (IsNoStep source.now.which target.now pass.old pass.new) }
-    ensures onward { IsOnward W.opening pass.old pass.new }
-    ensures err { IfErr result (λ e. (e ≡ Refusal.OutOfMemory) ⊎ ((e ≡ Refusal.ShardFull) × IsFull W.opening W.limits target.now pass.new.seen)) }
-{
-    if !follows(state, target) {
-        return Ok(None);
-    }
-    let done = come_forward(rt, alloc, pass, schema, source, state)?;
-    Ok(Some(done))
-}
-
 // Promise: A step of a target with one of its sources, or with the first of several that it isn't level with, appends exactly one entry, a
 // Copy after all that the source had stored at a look of the step, or a Follow; or none, and then the target was level with what the
 // source had stored at a look. Its pass looks once at the target and once at the source, once more at the target right before the entry, and
@@ -345,21 +265,11 @@ pub fn bring_forward<W: World, J: Naming>(
     ensures onward { IsOnward W.opening pass.old pass.new }
     ensures err { IfErr result (λ e. (e ≡ Refusal.OutOfMemory) ⊎ ((e ≡ Refusal.ShardFull) × IsFull W.opening W.limits target.now.which pass.new.seen)) }
 {
-    for _ in rt.forever() {
-        let tried = try_step(
-            rt,
-            alloc,
-            pass,
-            schema,
-            source,
-            &target.which,
-            &mut target.shard.lock(rt),
-        )?;
-        if let Some(step) = tried {
-            return Ok(step);
-        }
-    }
-    unreachable!()
+    let mut state = target
+        .shard
+        .state()
+        .lock_when(rt, |state| state.is(&target.which) && follows(state));
+    come_forward(rt, alloc, pass, schema, source, &mut state)
 }
 
 /// Brings a target forward with the first of these sources of it, in their order, that it isn't level with. Refuses as `bring_forward` does.

@@ -11,14 +11,14 @@ ghost use Rattle.reshard_create.specs.Configs.{IsFree, IsReshardConfig};
 ghost use Rattle.reshard_cutover.specs.FirstMoves.{HasMovedFirst, IsMoveRefusal, IsOneStepFirst, IsNoStepFirst};
 ghost use Rattle.reshard_create.specs.Begun.{HasBegun, IsCreateRefusal};
 
+use crate::context::{Replacement, WorkflowContext};
 use crate::workflow::{Stage, Workflow};
 use follow::Step;
 use journal::{Naming, ShardSeat};
 use keyrange::KeyRange;
 use reshard_create::{ReshardConfig, begin};
 use reshard_cutover::{ReshardFault, move_first};
-use serving::Serving;
-use shard::{Shard, ShardLaw, ShardPass, World};
+use shard::{ShardLaw, ShardPass, World};
 use std::alloc::Global;
 use std::sync::Wait;
 use vschema::VSchema;
@@ -80,30 +80,27 @@ impl<W: World, J: Naming> Workflow<W, J> {
         self.stage
     }
 
-    /// Begins a workflow: targets of these ranges, on the last of the free slots, one for each, are to take the place of the shards of
-    /// those. Refuses if it has a workflow; if no source is named, one is named twice or isn't a range of the present partition, or
+    /// Begins a workflow: targets of the replacement's target ranges, on the last of the free slots, one for each, are to take the place of the
+    /// shards of its source ranges. Refuses if it has a workflow; if no source is named, one is named twice or isn't a range of the present partition, or
     /// its shard doesn't serve or is frozen; if two targets overlap; if they don't hold what the sources do; if too few slots are
     /// free; and for want of memory. Then it stays as it was, and no slot is taken.
-    /// VSchema and serving are the engine's, which lends them for the call.
     pub fn create(
         &mut self,
         rt: &impl Wait,
         alloc: Global,
         pass: &mut ShardPass<W, J>,
-        schema: &VSchema,
-        serving: &Serving<Shard<W, J>>,
-        sources: &[KeyRange],
-        targets: &[KeyRange],
+        context: &WorkflowContext<'_, W, J>,
+        replacement: &Replacement<'_, KeyRange>,
     ) -> Result<(), ReshardFault>
-        requires schema { schema.now ≡ W.opening.schema }
+        requires schema { context.now.schema.now ≡ W.opening.schema }
         requires legal { IsLegal (MayFollow W.opening) pass.old.seen }
-        requires home { serving.now ≡ self.old.keyspace }
-        requires named { AllByRecursion IsNamed targets.now }
-        ensures begun { OnOk result (HasBegun W.opening pass.old pass.new self.new.sources self.new.targets self.old.keyspace sources.now targets.now) }
+        requires home { context.now.serving.now ≡ self.old.keyspace }
+        requires named { AllByRecursion IsNamed replacement.now.targets.now }
+        ensures begun { OnOk result (HasBegun W.opening pass.old pass.new self.new.sources self.new.targets self.old.keyspace replacement.now.sources.now replacement.now.targets.now) }
         ensures at { OnOk result (self.new ≡ record self.old { stage = Stage.Following; free = self.new.free; sources = self.new.sources; targets = self.new.targets; frozen = 0; retired = 0; served = 0; stored = self.new.stored; prepared = false; published = false }) }
         ensures was { OnOk result (self.old.stage ≡ Stage.None) }
         ensures refused { IfErr result (λ e. ((e ≡ ReshardFault.WrongState) × (self.old.stage ≡ Stage.None → ⊥) × (pass.new ≡ pass.old))
-            ⊎ ((self.old.stage ≡ Stage.None) × IsCreateRefusal W.opening pass.old pass.new self.old.keyspace (length self.old.free) sources.now targets.now e)) }
+            ⊎ ((self.old.stage ≡ Stage.None) × IsCreateRefusal W.opening pass.old pass.new self.old.keyspace (length self.old.free) replacement.now.sources.now replacement.now.targets.now e)) }
         ensures taken { OnOk result (self.old.free ≡ self.new.free ++ reverse (map (λ t. t.0.slot) self.new.targets)) }
         ensures same { OnErr result (self.new ≡ self.old) }
         ensures onward { IsOnward W.opening pass.old pass.new }
@@ -115,12 +112,12 @@ impl<W: World, J: Naming> Workflow<W, J> {
             rt,
             alloc,
             pass,
-            schema,
+            context.schema,
             &mut self.free,
             self.config,
-            serving.current(),
-            sources,
-            targets,
+            context.serving.current(),
+            replacement.sources,
+            replacement.targets,
         )?;
         self.sources = begun.sources;
         self.targets = begun.targets;

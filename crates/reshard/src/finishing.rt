@@ -6,16 +6,14 @@ ghost use Rattle.shard_law.specs.Entries.{MayFollow};
 ghost use Rattle.follow.specs.Steps.{IsOnward};
 ghost use Rattle.reshard.specs.Cutover.{HasFinished, IsResumed, HasStoppedLater, MaySwitch};
 
+use crate::context::WorkflowContext;
 use crate::cutover::CutoverStep;
 use crate::workflow::{Stage, Workflow};
-use buffer::Buffer;
 use journal::Naming;
 use reshard_cutover::{ReshardFault, confirm_cutover};
-use serving::Serving;
-use shard::{Shard, ShardPass, World};
+use shard::{ShardPass, World};
 use std::alloc::Global;
 use std::sync::Wait;
-use vschema::VSchema;
 
 /// What became of a cutover that had begun.
 #[derive(Clone, Copy, Debug, PartialEq, Eq)]
@@ -32,20 +30,18 @@ impl<W: World, J: Naming> Workflow<W, J> {
         &mut self,
         rt: &impl Wait,
         pass: &mut ShardPass<W, J>,
-        schema: &VSchema,
-        serving: &Serving<Shard<W, J>>,
-        buffer: &Buffer,
+        context: &WorkflowContext<'_, W, J>,
     )
-        requires schema { schema.now ≡ W.opening.schema }
+        requires schema { context.now.schema.now ≡ W.opening.schema }
         requires legal { IsLegal (MayFollow W.opening) pass.old.seen }
-        requires home { serving.now ≡ self.old.keyspace }
+        requires home { context.now.serving.now ≡ self.old.keyspace }
         requires begun { self.old.stage ≡ Stage.None → ⊥ }
         requires prepared { self.old.prepared ≡ true }
         ensures finished { HasFinished self.old self.new pass.new }
         ensures onward { IsOnward W.opening pass.old pass.new }
     {
         for _ in rt.forever() {
-            let step = self.switch_after(rt, pass, schema, serving, buffer);
+            let step = self.switch_after(rt, pass, context);
             if step == CutoverStep::Release {
                 confirm_cutover(rt, self.sources.as_slice(), self.targets.as_slice(), pass);
                 return;
@@ -55,27 +51,24 @@ impl<W: World, J: Naming> Workflow<W, J> {
     }
 
     // Takes all steps of a cutover that are left.
-    // VSchema, serving and buffer are the engine's, which lends them for the call.
     fn switch_all(
         &mut self,
         rt: &impl Wait,
         alloc: Global,
         pass: &mut ShardPass<W, J>,
-        schema: &VSchema,
-        serving: &Serving<Shard<W, J>>,
-        buffer: &Buffer,
+        context: &WorkflowContext<'_, W, J>,
     ) -> Result<(), ReshardFault>
         requires may { MaySwitch self.old }
-        requires schema { schema.now ≡ W.opening.schema }
+        requires schema { context.now.schema.now ≡ W.opening.schema }
         requires formed { IsTrue (is_vschema W.opening.schema) }
         requires legal { IsLegal (MayFollow W.opening) pass.old.seen }
-        requires home { serving.now ≡ self.old.keyspace }
+        requires home { context.now.serving.now ≡ self.old.keyspace }
         ensures through { OnOk result (HasFinished self.old self.new pass.new) }
         ensures refused { IfErr result (HasStoppedLater W.opening W.limits self.old self.new pass.old pass.new) }
         ensures onward { IsOnward W.opening pass.old pass.new }
     {
         for _ in rt.forever() {
-            let step = self.switch_step(rt, alloc, pass, schema, serving, buffer)?;
+            let step = self.switch_step(rt, alloc, pass, context)?;
             if step == CutoverStep::Release {
                 confirm_cutover(rt, self.sources.as_slice(), self.targets.as_slice(), pass);
                 return Ok(());
@@ -91,20 +84,17 @@ impl<W: World, J: Naming> Workflow<W, J> {
     /// brings the targets forward, as `step` does, until all are level, or twice as many entries were followed as their sources had stored.
     /// Refuses if no targets follow, or a cutover has begun. For want of memory, and if a shard would have more rows or entries than it may, the cutover is given up, of which
     /// no source is retired: each source serves again, the statements that waited go on, and the targets follow.
-    /// VSchema, serving and buffer are the engine's, which lends them for the call.
     pub fn switch_traffic(
         &mut self,
         rt: &impl Wait,
         alloc: Global,
         pass: &mut ShardPass<W, J>,
-        schema: &VSchema,
-        serving: &Serving<Shard<W, J>>,
-        buffer: &Buffer,
+        context: &WorkflowContext<'_, W, J>,
     ) -> Result<(), ReshardFault>
-        requires schema { schema.now ≡ W.opening.schema }
+        requires schema { context.now.schema.now ≡ W.opening.schema }
         requires formed { IsTrue (is_vschema W.opening.schema) }
         requires legal { IsLegal (MayFollow W.opening) pass.old.seen }
-        requires home { serving.now ≡ self.old.keyspace }
+        requires home { context.now.serving.now ≡ self.old.keyspace }
         ensures was { OnOk result (self.old.stage ≡ Stage.Following) }
         ensures through { OnOk result (HasFinished self.old self.new pass.new) }
         ensures refused { IfErr result (λ e. ((e ≡ ReshardFault.WrongState) × (self.old.stage ≡ Stage.Following → ⊥) × (self.new ≡ self.old) × (pass.new ≡ pass.old))
@@ -114,8 +104,8 @@ impl<W: World, J: Naming> Workflow<W, J> {
         if self.stage != Stage::Following {
             return Err(ReshardFault::WrongState);
         }
-        self.keep_up(rt, alloc, pass, schema, buffer)?;
-        self.switch_all(rt, alloc, pass, schema, serving, buffer)
+        self.keep_up(rt, alloc, pass, context)?;
+        self.switch_all(rt, alloc, pass, context)
     }
 
     fn is_switching(&self) -> bool
@@ -137,13 +127,11 @@ impl<W: World, J: Naming> Workflow<W, J> {
         &mut self,
         rt: &impl Wait,
         pass: &mut ShardPass<W, J>,
-        schema: &VSchema,
-        serving: &Serving<Shard<W, J>>,
-        buffer: &Buffer,
+        context: &WorkflowContext<'_, W, J>,
     ) -> Result<Resumed, ReshardFault>
-        requires schema { schema.now ≡ W.opening.schema }
+        requires schema { context.now.schema.now ≡ W.opening.schema }
         requires legal { IsLegal (MayFollow W.opening) pass.old.seen }
-        requires home { serving.now ≡ self.old.keyspace }
+        requires home { context.now.serving.now ≡ self.old.keyspace }
         ensures was { OnOk result (self.old.stage ≡ Stage.Switching) }
         ensures resumed { IfOk result (IsResumed W.opening self.old self.new pass.old pass.new) }
         ensures refused { IfErr result (λ e. (e ≡ ReshardFault.WrongState) × (self.old.stage ≡ Stage.Switching → ⊥) × (self.new ≡ self.old) × (pass.new ≡ pass.old)) }
@@ -153,10 +141,10 @@ impl<W: World, J: Naming> Workflow<W, J> {
             return Err(ReshardFault::WrongState);
         }
         if self.retired == 0 {
-            self.give_up(rt, pass, buffer);
+            self.give_up(rt, pass, context.buffer);
             return Ok(Resumed::Thawed);
         }
-        self.finish(rt, pass, schema, serving, buffer);
+        self.finish(rt, pass, context);
         Ok(Resumed::Finished)
     }
 }

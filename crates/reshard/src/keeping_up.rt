@@ -9,8 +9,8 @@ ghost use Rattle.reshard_cutover.specs.Overlapping.{TakeFromOwn};
 ghost use Rattle.reshard_cutover.specs.FirstMoves.{IsMoveRefusal};
 ghost use Rattle.reshard.specs.Cutover.{HasStopped};
 
+use crate::context::WorkflowContext;
 use crate::workflow::{Stage, Workflow};
-use buffer::Buffer;
 use follow::Step;
 use journal::Naming;
 use reshard_cutover::{ReshardFault, TargetShard, move_first};
@@ -88,11 +88,10 @@ impl<W: World, J: Naming> Workflow<W, J> {
         rt: &impl Wait,
         alloc: Global,
         pass: &mut ShardPass<W, J>,
-        schema: &VSchema,
-        buffer: &Buffer,
+        context: &WorkflowContext<'_, W, J>,
     ) -> Result<(), ReshardFault>
         requires begun { self.old.stage ≡ Stage.None → ⊥ }
-        requires schema { schema.now ≡ W.opening.schema }
+        requires schema { context.now.schema.now ≡ W.opening.schema }
         requires formed { IsTrue (is_vschema W.opening.schema) }
         requires legal { IsLegal (MayFollow W.opening) pass.old.seen }
         ensures same { OnOk result (self.new ≡ self.old) }
@@ -104,10 +103,10 @@ impl<W: World, J: Naming> Workflow<W, J> {
         }
         let targets = self.targets.as_slice();
         let most = most_followed(rt, targets);
-        match come_level(rt, alloc, pass, schema, targets, most) {
+        match come_level(rt, alloc, pass, context.schema, targets, most) {
             Ok(()) => Ok(()),
             Err(refusal) => {
-                self.give_up(rt, pass, buffer);
+                self.give_up(rt, pass, context.buffer);
                 Err(ReshardFault::Refused(refusal))
             }
         }

@@ -3,6 +3,7 @@
 
 mod calls;
 mod completing;
+mod context;
 mod cutover;
 mod ending;
 mod finishing;
@@ -13,6 +14,7 @@ mod stopping;
 mod switching;
 mod workflow;
 
+pub use context::{Replacement, WorkflowContext};
 pub use cutover::CutoverStep;
 pub use finishing::Resumed;
 pub use reshard_create::ReshardConfig;

@@ -6,6 +6,7 @@ ghost use Rattle.follow.specs.Steps.{IsOnward};
 ghost use Rattle.reshard.specs.Reopened.{IsReopened, has_any, stage_at};
 ghost use Rattle.reshard_reopen.specs.Rebuilt.{IsReopenRefusal};
 
+use crate::context::Replacement;
 use crate::workflow::{Stage, Workflow};
 use journal::Naming;
 use reshard_cutover::ReshardFault;
@@ -60,22 +61,20 @@ impl<W: World, J: Naming> Workflow<W, J> {
     /// the sources and the targets of one, with the other parts of the present partition, as a cutover leaves them; if a source that is
     /// retired didn't name a target that takes from it; if the sources' rows were dropped, or the workflow was given up; and for want of
     /// memory. Then it stays as it was. The slots that no shard was ever on are those that it has.
-    /// VSchema and serving are the engine's, which lends them for the call.
     pub fn reopen(
         &mut self,
         rt: &impl Wait,
         alloc: Global,
         pass: &mut ShardPass<W, J>,
         serving: &Serving<Shard<W, J>>,
-        sources: &[ShardReference<Shard<W, J>>],
-        targets: &[ShardReference<Shard<W, J>>],
+        replacement: &Replacement<'_, ShardReference<Shard<W, J>>>,
     ) -> Result<(), ReshardFault>
         requires legal { IsLegal (MayFollow W.opening) pass.old.seen }
         requires home { serving.now ≡ self.old.keyspace }
         ensures was { OnOk result (self.old.stage ≡ Stage.None) }
-        ensures reopened { OnOk result (IsReopened W.opening pass.old pass.new sources.now targets.now self.old self.new) }
+        ensures reopened { OnOk result (IsReopened W.opening pass.old pass.new replacement.now.sources.now replacement.now.targets.now self.old self.new) }
         ensures refused { IfErr result (λ e. ((e ≡ ReshardFault.WrongState) × (self.old.stage ≡ Stage.None → ⊥) × (pass.new ≡ pass.old))
-            ⊎ ((self.old.stage ≡ Stage.None) × IsReopenRefusal W.opening pass.old pass.new self.old.keyspace sources.now targets.now e)) }
+            ⊎ ((self.old.stage ≡ Stage.None) × IsReopenRefusal W.opening pass.old pass.new self.old.keyspace replacement.now.sources.now replacement.now.targets.now e)) }
         ensures same { OnErr result (self.new ≡ self.old) }
         ensures onward { IsOnward W.opening pass.old pass.new }
     {
@@ -84,7 +83,15 @@ impl<W: World, J: Naming> Workflow<W, J> {
         }
         let parts = serving.current().parts();
         let keyspace = self.config.keyspace;
-        let taken = reopen_workflow(rt, alloc, pass, keyspace, parts, sources, targets)?;
+        let taken = reopen_workflow(
+            rt,
+            alloc,
+            pass,
+            keyspace,
+            parts,
+            replacement.sources,
+            replacement.targets,
+        )?;
         let progress = taken.again.progress;
         self.sources = taken.again.sources;
         self.targets = taken.again.targets;
@@ -93,7 +100,7 @@ impl<W: World, J: Naming> Workflow<W, J> {
         self.retired = progress.retired;
         self.served = progress.served;
         self.named = taken.memory.named.into_iter();
-        self.published = has_any(parts, targets);
+        self.published = has_any(parts, replacement.targets);
         self.next = unless_published(self.published, taken.memory.next);
         self.prepared = true;
         self.stage = stage_of(progress.frozen);

@@ -6,14 +6,13 @@ ghost use Rattle.shard_law.specs.Entries.{MayFollow};
 ghost use Rattle.follow.specs.Steps.{IsOnward};
 ghost use Rattle.reshard.specs.Cutover.{HasSwitched, HasFoundReady, EndsAlone, DoesNoMore, HasStopped, IsSwitchRefusal, MayRetireFirst, MaySwitch};
 
+use crate::context::WorkflowContext;
 use crate::cutover::CutoverStep;
 use crate::workflow::{Stage, Workflow};
-use buffer::Buffer;
 use follow::Step;
 use journal::Naming;
 use reshard_cutover::{ReshardFault, all_fit, move_first};
-use serving::Serving;
-use shard::{Shard, ShardPass, World};
+use shard::{ShardPass, World};
 use std::alloc::Global;
 use std::sync::Wait;
 use vschema::VSchema;
@@ -25,13 +24,11 @@ impl<W: World, J: Naming> Workflow<W, J> {
         &mut self,
         rt: &impl Wait,
         pass: &mut ShardPass<W, J>,
-        schema: &VSchema,
-        serving: &Serving<Shard<W, J>>,
-        buffer: &Buffer,
+        context: &WorkflowContext<'_, W, J>,
     ) -> CutoverStep
-        requires schema { schema.now ≡ W.opening.schema }
+        requires schema { context.now.schema.now ≡ W.opening.schema }
         requires legal { IsLegal (MayFollow W.opening) pass.old.seen }
-        requires home { serving.now ≡ self.old.keyspace }
+        requires home { context.now.serving.now ≡ self.old.keyspace }
         requires begun { self.old.stage ≡ Stage.None → ⊥ }
         requires prepared { self.old.prepared ≡ true }
         ensures switched { HasSwitched W.opening self.old self.new pass.old pass.new result }
@@ -44,14 +41,14 @@ impl<W: World, J: Naming> Workflow<W, J> {
             return CutoverStep::Retire;
         }
         if self.served < self.targets.len() {
-            self.serve_next(rt, pass, schema);
+            self.serve_next(rt, pass, context.schema);
             return CutoverStep::Serve;
         }
         if !self.published {
-            self.publish_next(serving);
+            self.publish_next(context.serving);
             return CutoverStep::Publish;
         }
-        buffer.release(rt);
+        context.buffer.release(rt);
         self.stage = Stage::Switched;
         CutoverStep::Release
     }
@@ -94,21 +91,18 @@ impl<W: World, J: Naming> Workflow<W, J> {
     }
 
     // The next step of the cutover, if nothing is given up.
-    // VSchema, serving and buffer are the engine's, which lends them for the call.
     fn try_switch(
         &mut self,
         rt: &impl Wait,
         alloc: Global,
         pass: &mut ShardPass<W, J>,
-        schema: &VSchema,
-        serving: &Serving<Shard<W, J>>,
-        buffer: &Buffer,
+        context: &WorkflowContext<'_, W, J>,
     ) -> Result<CutoverStep, Refusal>
         requires begun { self.old.stage ≡ Stage.None → ⊥ }
-        requires schema { schema.now ≡ W.opening.schema }
+        requires schema { context.now.schema.now ≡ W.opening.schema }
         requires formed { IsTrue (is_vschema W.opening.schema) }
         requires legal { IsLegal (MayFollow W.opening) pass.old.seen }
-        requires home { serving.now ≡ self.old.keyspace }
+        requires home { context.now.serving.now ≡ self.old.keyspace }
         ensures switched { IfOk result (HasSwitched W.opening self.old self.new pass.old pass.new) }
         ensures once { IfOk result (DoesNoMore self.old pass.old pass.new) }
         ensures ready { IfOk result (λ step. step ≡ CutoverStep.Retire → self.old.retired ≡ 0 → MayRetireFirst W.opening W.limits self.old pass.old pass.new) }
@@ -118,11 +112,11 @@ impl<W: World, J: Naming> Workflow<W, J> {
         ensures onward { IsOnward W.opening pass.old pass.new }
     {
         if self.retired == 0 {
-            if let Some(step) = self.switch_before(rt, alloc, pass, schema)? {
+            if let Some(step) = self.switch_before(rt, alloc, pass, context.schema)? {
                 return Ok(step);
             }
         }
-        Ok(self.switch_after(rt, pass, schema, serving, buffer))
+        Ok(self.switch_after(rt, pass, context))
     }
 
     fn may_switch(&self) -> bool
@@ -152,20 +146,17 @@ impl<W: World, J: Naming> Workflow<W, J> {
     /// Refuses if no targets follow and no cutover has begun. For want of memory, and if a shard would have more rows or entries than
     /// it may, the cutover is given up, of which no source is retired: each source serves again, the statements that waited go on, and the
     /// targets follow.
-    /// VSchema, serving and buffer are the engine's, which lends them for the call.
     pub fn switch_step(
         &mut self,
         rt: &impl Wait,
         alloc: Global,
         pass: &mut ShardPass<W, J>,
-        schema: &VSchema,
-        serving: &Serving<Shard<W, J>>,
-        buffer: &Buffer,
+        context: &WorkflowContext<'_, W, J>,
     ) -> Result<CutoverStep, ReshardFault>
-        requires schema { schema.now ≡ W.opening.schema }
+        requires schema { context.now.schema.now ≡ W.opening.schema }
         requires formed { IsTrue (is_vschema W.opening.schema) }
         requires legal { IsLegal (MayFollow W.opening) pass.old.seen }
-        requires home { serving.now ≡ self.old.keyspace }
+        requires home { context.now.serving.now ≡ self.old.keyspace }
         ensures was { OnOk result (MaySwitch self.old) }
         ensures switched { IfOk result (HasSwitched W.opening self.old self.new pass.old pass.new) }
         ensures once { IfOk result (DoesNoMore self.old pass.old pass.new) }
@@ -177,10 +168,10 @@ impl<W: World, J: Naming> Workflow<W, J> {
         if !self.may_switch() {
             return Err(ReshardFault::WrongState);
         }
-        match self.try_switch(rt, alloc, pass, schema, serving, buffer) {
+        match self.try_switch(rt, alloc, pass, context) {
             Ok(step) => Ok(step),
             Err(refusal) => {
-                self.give_up(rt, pass, buffer);
+                self.give_up(rt, pass, context.buffer);
                 Err(ReshardFault::Refused(refusal))
             }
         }

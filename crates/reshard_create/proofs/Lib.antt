@@ -1,13 +1,10 @@
-pub mod Lists
 pub mod Rising
 pub mod SeenShards
 pub mod Parts
-pub mod Ranges
+pub mod NamedRanges
 pub mod Named
-pub mod Splits
 pub mod Blank
 pub mod Making
 pub mod Begins
 pub mod Unfit
 pub mod Seats
-pub mod Those

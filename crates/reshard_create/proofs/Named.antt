@@ -10,26 +10,8 @@ use Rattle.std.specs.Cmp.Lexicographic.{pointwise}
 use Rattle.std.proofs.lemmas.Bool.{eq-eqb, false≢true}
 use Rattle.serving.specs.Partitions.{Seat}
 use Rattle.reshard_create.specs.inner.Created.{AreNamed}
-use Rattle.reshard_create.proofs.Ranges.{counted-cons, counted-append}
-
-pub all_push : {X : Type 0} (P : X → Type 0) (xs : List X) (x : X) → AllByRecursion P xs → P x → AllByRecursion P (xs ++ x ∷ [])
-all_push P [] x a p = (p, tt)
-all_push P (y ∷ ys) x a p = (a.0, all_push P ys x a.1 p)
-
--- an element of the list isn't one of which none is
-pub not_there : {X : Type 0} (xs : List X) (x : X) → AllByRecursion (λ y. y ≡ x → ⊥) xs → Contains xs x → ⊥
-not_there [] x none h = let l = h.1 in absurd (omega (arith, l))
-not_there (y ∷ xs) x none h = by h.0 h.1 h.2 (not_there xs x none.1)
-  where
-    by : (k : ℕ) → k < length (y ∷ xs) → get_or (y ∷ xs) k x ≡ x → (Contains xs x → ⊥) → ⊥
-    by zero l e rest = none.0 e
-    by (suc k) l e rest = rest (k, omega (arith, l), e)
-
-pub whole : {X : Type 0} (P : X → Type 0) (n : ℕ) (xs : List X) → length xs ≤ n → AllByRecursion P (take n xs) → AllByRecursion P xs
-whole P zero [] l all = tt
-whole P zero (x ∷ xs) l all = absurd (omega (arith, l))
-whole P (suc n) [] l all = tt
-whole P (suc n) (x ∷ xs) l all = (all.0, whole P n xs (omega (arith, l)) all.1)
+use Rattle.reshard_split.proofs.Lists.{all_push}
+use Rattle.reshard_split.proofs.Counting.{counted-cons, counted-append}
 
 one_more : {X : Type 0} (p : X → Bool) (xs : List X) (x : X) → count_by p (xs ++ x ∷ []) ≡ count_by p xs + cond (p x) 1 0
 one_more p xs x =

@@ -1,9 +1,8 @@
 -- What looks at the shards of a partition's parts show.
-use Rattle.std.proofs.Common.{◌≡◌, ℕ, Bool, true, false, List, [], ◌∷◌, ◌++◌, map, take, length, get_or, ◌+◌, ◌<◌, refl, sym, ap, ◌∙◌, subst}
+use Rattle.std.proofs.Common.{◌≡◌, ℕ, List, [], ◌∷◌, ◌++◌, map, take, length, get_or, ◌+◌, ◌<◌, refl, sym, ap, ◌∙◌, subst}
 use Rattle.std.specs.List.{AllByRecursion}
 use Rattle.std.proofs.lemmas.List.{take_more}
 use mathlib.Core.List.{IsPrefix}
-use Rattle.keyrange.specs.declared.KeyRange.{KeyRange}
 use Rattle.vschema.specs.declared.schema.Place.{Place}
 use Rattle.serving.specs.Partitions.{Seat, AreOf}
 use Rattle.journal.specs.Views.{PassView}
@@ -16,10 +15,6 @@ use Rattle.shard_law.proofs.Lists.{all-weaker, AllByRecursion-push}
 use Rattle.shard.specs.Seats.{seat_of}
 use Rattle.reshard_create.specs.Begun.{WasSeen, IsServing, IsNotFollowing}
 use Rattle.reshard_create.specs.inner.Created.{IsSighted, IsSeenAt, HasSeen}
-
-pub opposite : (b : Bool) → Rattle.std.proofs.Common.not b ≡ true → b ≡ false
-opposite true e = sym e
-opposite false e = refl
 
 -- ---- what was seen
 
@@ -48,11 +43,11 @@ pub serves_not_follows : (m : Mode) → IsServing m → IsNotFollowing m
 serves_not_follows m serves follows = cc (sym serves ∙ follows)
 
 -- a shard as it was found with the last look
-pub sighted_at : (o : Opening) (p now : PassView Entry) (k : ℕ) (Such : Mode → Type 0) (seat : Seat) (slot : ℕ) (range : KeyRange) (s : ShardRecord) → IsPrefix p.seen now.seen
-    → slot ≡ seat.0 → range ≡ seat.1 → IsSighted o now.seen slot (record { keyspace = k; range = range }) Such s → IsSeenAt o p now k Such seat s
-sighted_at o p now k Such seat slot range s later on at is = record {
-  slot = is.on ∙ on;
-  place = is.at ∙ ap (λ (r : KeyRange). record { keyspace = k; range = r }) at;
+pub sighted_at : (o : Opening) (p now : PassView Entry) (k : ℕ) (Such : Mode → Type 0) (seat : Seat) (s : ShardRecord) → IsPrefix p.seen now.seen
+    → IsSighted o now.seen seat.0 (record { keyspace = k; range = seat.1 }) Such s → IsSeenAt o p now k Such seat s
+sighted_at o p now k Such seat s later is = record {
+  slot = is.on;
+  place = is.at;
   seen = record { run = now.seen; between = record { since = later; until = prefix_self now.seen }; of_run = is.of_run; such = is.such };
 }
 

@@ -1,6 +1,6 @@
 -- Why a workflow isn't begun.
-use Rattle.std.proofs.Common.{◌≡◌, ◌⊎◌, ◌<◌, ◌+◌, ℕ, List, [], ◌∷◌, ◌++◌, length, map, Result, Ok, Err, inl, inr, sym, ap, ◌∙◌, subst}
-use Rattle.std.specs.Prelude.{Contains, IfErr, IsErrAnd, IsPermutation}
+use Rattle.std.proofs.Common.{◌≡◌, ◌⊎◌, ◌<◌, ◌+◌, ℕ, List, [], ◌∷◌, ◌++◌, length, map, inl, inr, sym, ap, ◌∙◌, subst}
+use Rattle.std.specs.Prelude.{Contains, IsPermutation}
 use Rattle.std.specs.List.{AllByRecursion}
 use Rattle.std.proofs.lemmas.List.{map-append}
 use Rattle.std.proofs.lemmas.List.Sorted.{sum_by-IsPermutation, IsPermutation-trans, IsPermutation-map}
@@ -20,13 +20,14 @@ use Rattle.shard.specs.Seats.{seat_of}
 use Rattle.reshard_cutover.specs.declared.fault.ReshardFault.{ReshardFault}
 use Rattle.reshard_cutover.specs.declared.fault.ReshardFault.TheVariants.{Refused, Gap, FewSlots, WrongSource}
 use Rattle.reshard_cutover.specs.declared.fault.ReshardFault.TheVariants as faults
-use Rattle.reshard_create.specs.Choices.{DoNotOverlap, HoldTheSame}
+use Rattle.reshard_split.specs.Choices.{DoNotOverlap, HoldTheSame}
 use Rattle.reshard_create.specs.Begun.{WasSeen, IsServing, IsNotFollowing, IsAway, AreSources, ArePartsOf, IsCreateRefusal}
 use Rattle.reshard_create.specs.Begun as begun
 use Rattle.reshard_create.specs.inner.Created.{AreToldApart, HasSeen}
 use Rattle.reshard_cutover.proofs.Permuted.{all_permuted}
-use Rattle.reshard_create.proofs.Lists.{map_twice, all_map, all_from_map, all_both}
-use Rattle.reshard_create.proofs.Ranges.{same_from_cover, cover_from_same}
+pub use Rattle.reshard_cutover.proofs.Residual.{residual}
+use Rattle.reshard_split.proofs.Lists.{map_twice, all_map, all_from_map, all_both}
+use Rattle.reshard_create.proofs.NamedRanges.{same_from_cover, cover_from_same}
 use Rattle.reshard_create.proofs.SeenShards.{AreShardsAt, shards_at, shards_since, shards_until, seen_until, seen_as, serves_not_follows}
 use Rattle.reshard_create.proofs.Parts.{taken_are, taken_once, all_parts, apart_from_once, once_permuted}
 
@@ -34,12 +35,6 @@ pub no_items : {X : Type 0} (xs : List X) → length xs ≡ 0 → xs ≡ []
 no_items [] e = Rattle.std.proofs.Common.refl
 no_items (x ∷ xs) e = absurd (omega (Rattle.std.proofs.Common.arith, e))
 
--- the fault that a `?` makes of a refusal
-pub residual : {X : Type 0} (r : Result X ReshardFault) (e : Refusal) (P : ReshardFault → Type 0) → IsErrAnd r (λ f. f ≡ Refused e) → P (Refused e) → IfErr r P
-residual (Ok x) e P h p = tt
-residual (Err f) e P h p = subst P (sym h) p
-
--- ranges that hold what the parts do hold what the names do
 held_by_names : (from taken into : List KeyRange) → IsPermutation from taken → HoldTheSame into taken → HoldTheSame into from
 held_by_names from taken into perm same id bytes = same id bytes ∙ sum_by-IsPermutation _ from taken perm
 

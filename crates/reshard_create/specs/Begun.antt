@@ -15,7 +15,7 @@ use Rattle.follow.specs.Steps.{IsRunBetween}
 use Rattle.reshard_cutover.specs.declared.fault.ReshardFault.{ReshardFault}
 use Rattle.reshard_cutover.specs.declared.fault.ReshardFault.TheVariants.{Refused, Gap, FewSlots, WrongSource}
 use Rattle.reshard_cutover.specs.declared.fault.ReshardFault.TheVariants as faults
-use Rattle.reshard_create.specs.Choices.{DoNotOverlap, HoldTheSame, begin_cmp}
+use Rattle.reshard_split.specs.Choices.{DoNotOverlap, HoldTheSame, begin_cmp}
 use Rattle.reshard_cutover.specs.Overlapping.{AreThose}
 use Rattle.reshard_cutover.specs.TargetSources.{TargetWithSources}
 

@@ -1,5 +1,4 @@
 pub mod inner
-pub mod Choices
 pub mod Configs
 pub mod Splits
 pub mod Begun

@@ -10,6 +10,5 @@ mod sources;
 mod targets;
 
 pub use config::ReshardConfig;
-pub use new_workflow::{MOST_PARTS, NewWorkflow, begin};
-pub use partition_parts::next_ranges;
-pub use targets::{TargetSources, copy_member, overlapping_sources};
+pub use new_workflow::{NewWorkflow, begin};
+pub use reshard_split::next_ranges;

@@ -1,9 +1,8 @@
-//! Looks at the shards of a partition's parts. A lock can't tell which shard it is over, so each look tests it.
-ghost use Rattle.shard_run.specs.declared.ShardRecord as which;
-ghost use Rattle.std.specs.Prelude.{◌≡◌, true, false};
+//! Looks at the shards of a partition's parts.
+ghost use Rattle.std.specs.Prelude.{◌≡◌};
 ghost use Rattle.std.specs.List.{AllByRecursion};
+ghost use Rattle.std.specs.Sync.Mutex.{mutex_guard_value};
 ghost use Rattle.journal.specs.Runs.{IsLegal};
-ghost use Rattle.shard_run.specs.Runs.{mode};
 ghost use Rattle.shard_law.specs.Entries.{MayFollow};
 ghost use Rattle.follow.specs.Steps.{IsOnward};
 ghost use Rattle.reshard_create.specs.Begun.{IsNotFollowing};
@@ -12,63 +11,19 @@ ghost use Rattle.reshard_create.specs.inner.Created.{IsSighted, HasSeen};
 use journal::Naming;
 use serving::ShardReference;
 use shard::{Shard, ShardPass, ShardState, World};
-use shard_run::Mode;
-use std::sync::Wait;
+use std::sync::{MutexGuard, Wait};
 use vschema::Place;
 
-// Whether the shard still follows its sources.
-fn follows<W: World, J: Naming>(state: &ShardState<W, J>) -> bool
-    ensures { result ≡ false → IsNotFollowing (mode W.opening state.now.seen state.now.shard.slot) }
-{
-    match state.mode() {
-        Mode::Following => true,
-        _ => false,
-    }
-}
-
-// One look: whether it is the shard of the slot and place, and doesn't follow.
-pub(crate) fn stands<W: World, J: Naming>(
-    state: &mut ShardState<W, J>,
-    pass: &mut ShardPass<W, J>,
-    slot: usize,
-    place: &Place,
-) -> bool
-    requires legal { IsLegal (MayFollow W.opening) pass.old.seen }
-    ensures sighted { result ≡ true → IsSighted W.opening pass.new.seen slot place.now IsNotFollowing state.new.shard }
-    ensures seen { state.new.seen ≡ pass.new.seen }
-    ensures onward { IsOnward W.opening pass.old pass.new }
-{
-    let _ = state.look(pass);
-    if !state.stands_at(slot, place) {
-        return false;
-    }
-    !follows(state)
-}
-
-// Whether the shard of a part is there, asked under its lock.
-fn stands_once<W: World, J: Naming>(
-    rt: &impl Wait,
-    pass: &mut ShardPass<W, J>,
-    part: &ShardReference<Shard<W, J>>,
-    slot: usize,
-    place: &Place,
-) -> bool
-    requires legal { IsLegal (MayFollow W.opening) pass.old.seen }
-    ensures sighted { result ≡ true → (s : which.ShardRecord) × IsSighted W.opening pass.new.seen slot place.now IsNotFollowing s }
-    ensures onward { IsOnward W.opening pass.old pass.new }
-{
-    stands(&mut part.shard().lock(rt), pass, slot, place)
-}
-
-// Looks at the shard of the part, until it is found there and doesn't follow. Takes no memory.
-fn look_at<W: World, J: Naming>(
+// The state of the part's shard under its lock, with a look at it, once it is found there and doesn't follow. Takes no memory.
+pub(crate) fn look_at<'a, W: World, J: Naming>(
     rt: &impl Wait,
     pass: &mut ShardPass<W, J>,
     keyspace: usize,
-    part: &ShardReference<Shard<W, J>>,
-)
+    part: &'a ShardReference<Shard<W, J>>,
+) -> MutexGuard<'a, ShardState<W, J>>
     requires legal { IsLegal (MayFollow W.opening) pass.old.seen }
-    ensures seen { HasSeen W.opening pass.old pass.new keyspace IsNotFollowing part.now }
+    ensures sighted { IsSighted W.opening pass.new.seen part.now.0 (record { keyspace = keyspace; range = part.now.1 }) IsNotFollowing (mutex_guard_value result).shard }
+    ensures now { (mutex_guard_value result).seen ≡ pass.new.seen }
     ensures onward { IsOnward W.opening pass.old pass.new }
 {
     let place = Place {
@@ -76,12 +31,12 @@ fn look_at<W: World, J: Naming>(
         range: part.range(),
     };
     let slot = part.slot();
-    for _ in rt.forever() {
-        if stands_once(rt, pass, part, slot, &place) {
-            return;
-        }
-    }
-    unreachable!()
+    let mut state = part
+        .shard()
+        .state()
+        .lock_when(rt, |state| state.is_found_at(slot, &place));
+    let _ = state.look(pass);
+    state
 }
 
 // Looks at the shard of each of the parts. Takes no memory.
@@ -96,6 +51,6 @@ pub(crate) fn look_at_each<W: World, J: Naming>(
     ensures onward { IsOnward W.opening pass.old pass.new }
 {
     for part in parts {
-        look_at(rt, pass, keyspace, part);
+        let _state = look_at(rt, pass, keyspace, part);
     }
 }

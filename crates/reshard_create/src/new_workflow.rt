@@ -8,8 +8,8 @@ ghost use Rattle.shard_law.specs.Entries.{MayFollow};
 ghost use Rattle.serving.specs.Partitions.{IsPartition, AreOf};
 ghost use Rattle.follow.specs.Steps.{IsOnward};
 ghost use Rattle.reshard_create.specs.Configs.{IsFree, IsReshardConfig};
-ghost use Rattle.reshard_create.specs.Splits.{IsSplit, target_seats};
-ghost use Rattle.reshard_create.specs.Choices.{DoNotOverlap, begin_cmp};
+ghost use Rattle.reshard_split.specs.Splits.{IsSplit, target_seats};
+ghost use Rattle.reshard_split.specs.Choices.{DoNotOverlap, begin_cmp};
 ghost use Rattle.reshard_create.specs.Begun.{AreSources, HasBegun, IsCreateRefusal};
 ghost use Rattle.reshard_create.specs.inner.Created.{IsSurvey};
 
@@ -21,14 +21,12 @@ use crate::targets::make_targets;
 use journal::{Naming, ShardSeat};
 use keyrange::KeyRange;
 use reshard_cutover::{ReshardFault, SourceShard, TargetShard};
+use reshard_split::MOST_PARTS;
 use serving::{Partition, ShardReference};
 use shard::{Shard, ShardLaw, ShardPass, World};
 use std::alloc::{AllocError, Global};
 use std::sync::Wait;
 use vschema::VSchema;
-
-/// A partition has at most so many parts.
-pub const MOST_PARTS: usize = 64;
 
 /// Sources, the targets that replace them, and the parts that stay.
 #[derive(Drop)]

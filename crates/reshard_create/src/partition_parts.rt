@@ -1,6 +1,6 @@
 //! Which parts of a partition are named, and the ranges once targets replace them.
-ghost use Rattle.std.specs.Prelude.{◌≡◌, ◌++◌, ◌∷◌, [], ◌↔◌, IsTrue, not, true, IfOk, OnOk, Contains, map, false};
-ghost use Rattle.reshard_create.specs.Choices.{DoNotOverlap};
+ghost use Rattle.std.specs.Prelude.{◌≡◌, ◌++◌, ◌∷◌, [], ◌↔◌, IsTrue, not, true, IfOk, OnOk, Contains, false};
+ghost use Rattle.reshard_split.specs.Choices.{DoNotOverlap};
 ghost use Rattle.reshard_create.specs.inner.Created.{AreNamed};
 ghost use Rattle.keyrange.specs.Ranges.{Overlap};
 ghost use Rattle.std.specs.List.{AllByRecursion};
@@ -82,22 +82,4 @@ pub fn any_overlap(ranges: &[KeyRange]) -> bool
         }
     }
     false
-}
-
-/// The ranges of the parts, and the targets after them.
-pub fn next_ranges<S: Seated + Drop>(
-    alloc: Global,
-    parts: &[ShardReference<S>],
-    targets: &[KeyRange],
-) -> Result<Vec<KeyRange>, AllocError>
-    ensures ok { IfOk result (λ r. r.items ≡ map (λ p. p.1) parts.now ++ targets.now) }
-{
-    let mut ranges = Vec::new(alloc);
-    for part in parts {
-        ranges.push(part.range())?;
-    }
-    for target in targets {
-        ranges.push(*target)?;
-    }
-    Ok(ranges)
 }

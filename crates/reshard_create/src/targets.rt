@@ -1,26 +1,26 @@
 //! Makes the targets of a workflow, on free slots, each with the sources that overlap it.
 ghost use Rattle.shard_run.specs.declared.ShardRecord as which;
-ghost use Rattle.std.specs.Prelude.{◌≡◌, ◌-◌, ◌+◌, ◌≤◌, ◌<◌, ◌^◌, ◌++◌, ◌∷◌, ◌⊎◌, [], ℕ, List, IfOk, IfErr, OnOk, OnErr, MatchOption, map, reverse, length, replicate, vec_len, vec_capacity};
+ghost use Rattle.std.specs.Prelude.{◌≡◌, ◌-◌, ◌+◌, ◌≤◌, ◌<◌, ◌^◌, ◌++◌, ◌∷◌, [], List, IfOk, IfErr, OnOk, OnErr, MatchOption, map, reverse, length, replicate, vec_len, vec_capacity};
 ghost use Rattle.std.specs.List.{AllByRecursion};
 ghost use Rattle.keyrange.specs.Names.{IsNamed};
 ghost use Rattle.journal.specs.Runs.{IsLegal};
 ghost use Rattle.shard_run.specs.Openings.{IsOpening};
 ghost use Rattle.shard_law.specs.Entries.{MayFollow};
 ghost use Rattle.follow.specs.Steps.{IsOnward};
-ghost use Rattle.reshard_cutover.specs.Overlapping.{AreThose};
-ghost use Rattle.reshard_create.specs.Splits.{target_seats, AreOverlapped};
+ghost use Rattle.reshard_split.specs.Splits.{target_seats, AreOverlapped};
 ghost use Rattle.shard.specs.Seats.{seat_of};
 ghost use Rattle.reshard_create.specs.Configs.{IsFree, IsReshardConfig};
 ghost use Rattle.reshard_create.specs.Begun.{IsServing, IsAway};
-ghost use Rattle.reshard_create.specs.inner.Created.{IsSourceState, IsSeenAt, HasSeen, HasGrown, IsMade, IsMadeOf};
+ghost use Rattle.reshard_create.specs.inner.Created.{IsSeenAt, HasSeen, IsMade, IsMadeOf};
 
 use crate::config::ReshardConfig;
-use crate::looks::stands;
+use crate::looks::look_at;
 use crate::seats_back::{give_back, put, seat_back};
 use follow::WorkflowShard;
 use journal::{Naming, ShardSeat};
 use keyrange::KeyRange;
 use reshard_cutover::{SourceShard, TargetShard, serves};
+use reshard_split::overlapping_sources;
 use serving::ShardReference;
 use shard::{Limits, Shard, ShardLaw, ShardPass, ShardState, Store, World};
 use shard_contents::copy_shard;
@@ -28,66 +28,6 @@ use shard_run::Mode;
 use std::alloc::{AllocError, Global};
 use std::sync::{Arc, Wait};
 use vschema::{Place, VSchema};
-use vt_value::Items;
-
-// What a look at the shard of a slot and place shows: it serves; or it is frozen or retired; or it is another, or follows.
-#[derive(Drop)]
-enum SourceState {
-    Serves(shard_run::ShardRecord),
-    DoesNot,
-    Another,
-}
-
-/// Another handle of the member, whose shard is shared.
-pub fn copy_member<W: World, J: Naming>(
-    alloc: Global,
-    member: &WorkflowShard<W, J>,
-) -> Result<WorkflowShard<W, J>, AllocError>
-    ensures ok { IfOk result (λ copy. copy.which ≡ member.now.which) }
-    ensures shard { IfOk result (λ copy. copy.shard.value ≡ member.now.shard.value) }
-{
-    let shard = Arc::try_clone(&member.shard)?;
-    let which = copy_shard(alloc, &member.which)?;
-    Ok(WorkflowShard { which, shard })
-}
-
-// One look at the shard of a part.
-fn try_source<W: World, J: Naming>(
-    state: &mut ShardState<W, J>,
-    alloc: Global,
-    pass: &mut ShardPass<W, J>,
-    slot: usize,
-    place: &Place,
-) -> Result<SourceState, AllocError>
-    requires legal { IsLegal (MayFollow W.opening) pass.old.seen }
-    ensures source_state { IfOk result (IsSourceState W.opening pass.new.seen slot place.now) }
-    ensures onward { IsOnward W.opening pass.old pass.new }
-{
-    if !stands(state, pass, slot, place) {
-        return Ok(SourceState::Another);
-    }
-    if !serves(state) {
-        return Ok(SourceState::DoesNot);
-    }
-    let which = copy_shard(alloc, state.shard())?;
-    Ok(SourceState::Serves(which))
-}
-
-// Looks once at the shard of a part under its lock.
-fn look_once<W: World, J: Naming>(
-    rt: &impl Wait,
-    alloc: Global,
-    pass: &mut ShardPass<W, J>,
-    part: &ShardReference<Shard<W, J>>,
-    slot: usize,
-    place: &Place,
-) -> Result<SourceState, AllocError>
-    requires legal { IsLegal (MayFollow W.opening) pass.old.seen }
-    ensures source_state { IfOk result (IsSourceState W.opening pass.new.seen slot place.now) }
-    ensures onward { IsOnward W.opening pass.old pass.new }
-{
-    try_source(&mut part.shard().lock(rt), alloc, pass, slot, place)
-}
 
 fn member_of<W: World, J: Naming>(
     part: &ShardReference<Shard<W, J>>,
@@ -112,80 +52,15 @@ pub(crate) fn source_of<W: World, J: Naming>(
         (λ m. IsSeenAt W.opening pass.old pass.new keyspace IsServing part.now m.which)) }
     ensures onward { IsOnward W.opening pass.old pass.new }
 {
-    let place = Place {
-        keyspace,
-        range: part.range(),
-    };
-    let slot = part.slot();
-    for _ in rt.forever() {
-        match look_once(rt, alloc, pass, part, slot, &place)? {
-            SourceState::Serves(which) => {
-                let member = member_of(part, which)?;
-                return Ok(Some(member));
-            }
-            SourceState::DoesNot => return Ok(None),
-            SourceState::Another => {}
+    let which = {
+        let state = look_at(rt, pass, keyspace, part);
+        if !serves(&state) {
+            return Ok(None);
         }
-    }
-    unreachable!()
-}
-
-/// Sources that a target takes from, and their slots.
-#[derive(Drop)]
-pub struct TargetSources<W: World, J: Naming> {
-    pub slots: Items<usize>,
-    pub members: Vec<WorkflowShard<W, J>>,
-}
-
-impl<W: World, J: Naming> TargetSources<W, J> {
-    fn add(&mut self, alloc: Global, member: &WorkflowShard<W, J>) -> Result<(), AllocError>
-        ensures slots { OnOk result (self.new.slots ≡ self.old.slots ++ member.now.which.slot ∷ []) }
-        ensures members { OnOk result (map (λ m. m.which) self.new.members.items ≡ map (λ m. m.which) self.old.members.items ++ member.now.which ∷ []) }
-    {
-        self.slots.push(member.which.slot)?;
-        self.members.push(copy_member(alloc, member)?)?;
-        Ok(())
-    }
-}
-
-impl<W: World, J: Naming> TargetSources<W, J> {
-    // Adds the source if it overlaps the range.
-    fn consider(
-        &mut self,
-        alloc: Global,
-        range: &KeyRange,
-        member: &WorkflowShard<W, J>,
-    ) -> Result<(), AllocError>
-        requires { self.old.slots ≡ map (λ s. s.slot) (map (λ m. m.which) self.old.members.items) }
-        ensures slots { OnOk result (self.new.slots ≡ map (λ s. s.slot) (map (λ m. m.which) self.new.members.items)) }
-        ensures grown { OnOk result (HasGrown range.now member.now.which (map (λ m. m.which) self.old.members.items) (map (λ m. m.which) self.new.members.items)) }
-    {
-        if !member.which.place.range.overlaps(range) {
-            return Ok(());
-        }
-        self.add(alloc, member)?;
-        Ok(())
-    }
-}
-
-/// Those of the sources that overlap the range.
-pub fn overlapping_sources<W: World, J: Naming>(
-    alloc: Global,
-    range: &KeyRange,
-    sources: &[SourceShard<W, J>],
-) -> Result<TargetSources<W, J>, AllocError>
-    ensures slots { IfOk result (λ own. own.slots ≡ map (λ s. s.slot) (map (λ m. m.which) own.members.items)) }
-    ensures own { IfOk result (λ own. AreOverlapped (map (λ s. s.member.which) sources.now) range.now (map (λ m. m.which) own.members.items)) }
-    ensures those { IfOk result (λ own. AreThose range.now (map (λ s. s.member.which) sources.now) (map (λ m. m.which) own.members.items)) }
-{
-    let mut own = TargetSources {
-        slots: Items::new(alloc),
-        members: Vec::new(alloc),
+        copy_shard(alloc, state.shard())?
     };
-    for source in sources {
-        own.consider(alloc, range, &source.member)?;
-    }
-    Ok(own)
+    let member = member_of(part, which)?;
+    Ok(Some(member))
 }
 
 // A store of the tables, which are empty.

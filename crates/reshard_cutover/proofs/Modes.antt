@@ -1,10 +1,10 @@
 -- A shard whose rows are dropped is retired in its run.
-use Rattle.std.proofs.Common.{◌≡◌, ◌⊎◌, if◌then◌else◌, inl, inr, ℕ, Bool, true, false, [], ◌∷◌, sym, ◌∙◌}
+use Rattle.std.proofs.Common.{◌≡◌, ◌⊎◌, if◌then◌else◌, inl, inr, ℕ, Bool, true, false, [], ◌∷◌, refl, sym, ◌∙◌}
 use Rattle.shard_run.specs.declared.Event.{Event}
 use Rattle.shard_run.specs.declared.Event.TheVariants.{Commit, Follow, Copy, Freeze, Thaw, Retire, Serve}
 use Rattle.shard_run.specs.declared.Mode.{Mode}
-use Rattle.shard_run.specs.declared.Mode.TheVariants.{Following, Serving, Retired, Dropped}
-use Rattle.shard_run.specs.Runs.{Opening, Run, mode, mode_after, mode_from, is_opening, entries_on}
+use Rattle.shard_run.specs.declared.Mode.TheVariants.{Following, Serving, Frozen, Retired, Dropped}
+use Rattle.shard_run.specs.Runs.{Opening, Run, mode, mode_after, mode_from, is_opening, entries_on, answers_queries}
 
 after : (m : Mode) → (m ≡ Dropped → ⊥) → (event : Event) → mode_after m event ≡ Dropped → ⊥
 after m h (Commit c) e = h e
@@ -36,3 +36,11 @@ out_of_use o run slot m (inr h) e = h.1
 pub not_serving : (m r : Mode) → (r ≡ m) ⊎ ((r ≡ Dropped) × (m ≡ Retired)) → (r ≡ Serving → ⊥) → m ≡ Serving → ⊥
 not_serving m r (inl e) n is = n (e ∙ is)
 not_serving m r (inr p) n is = absurd (cc (p.1, is))
+
+-- a shard that answers queries and takes no commits is frozen
+pub frozen_of : (m : Mode) → answers_queries m ≡ true → (m ≡ Serving → ⊥) → m ≡ Frozen
+frozen_of Following answers not = absurd (cc answers)
+frozen_of Serving answers not = absurd (not refl)
+frozen_of Frozen answers not = refl
+frozen_of Retired answers not = absurd (cc answers)
+frozen_of Dropped answers not = absurd (cc answers)

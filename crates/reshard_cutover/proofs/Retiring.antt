@@ -9,7 +9,7 @@ use Rattle.vschema.specs.declared.schema.Place.{Place}
 use Rattle.shard_run.specs.declared.ShardRecord.{ShardRecord}
 use Rattle.shard_run.specs.declared.Mode.TheVariants.{Following, Retired}
 use Rattle.shard_run.specs.declared.Event.TheVariants.{Retire}
-use Rattle.shard_run.specs.Runs.{Run, Opening, mode, stored_on}
+use Rattle.shard_run.specs.Runs.{Run, Opening, mode, stored_on, entries_on}
 use Rattle.shard_law.specs.Legal.{Legal, MayServe, IsRetiredFor}
 use Rattle.shard_run.specs.Copies.{position}
 use Rattle.shard_run.specs.Openings.{IsOpening}
@@ -17,6 +17,7 @@ use Rattle.shard_contents.specs.Copying.{HasCopiedAll}
 use Rattle.shard_law.proofs.Lists.{In, In-from_Contains, In-map, In-from_map, In-all, all-weaker, AllByRecursion-push}
 use Rattle.shard_law.proofs.Law.{slots}
 use Rattle.shard_contents.proofs.States.{stored-same}
+use Rattle.shard_contents.proofs.Positions.{position-same, copied_all-same}
 use Rattle.shard_contents.proofs.Modes.{retired_stays}
 use Rattle.reshard_cutover.specs.Steps.{Looked, has_source, HasEntry, IsRetired, AreRetired, IsTargetOf}
 use Rattle.reshard_cutover.specs.inner.Steps.{IsUpTo, AreFollowed}
@@ -167,3 +168,16 @@ pub map_at : {X Y : Type 0} (f : X → Y) (xs : List X) (i : ℕ) (x : X) → i 
 map_at f [] i x there is = absurd (omega (arith, there))
 map_at f (y ∷ xs) zero x there is = (omega arith, ap f is)
 map_at f (y ∷ xs) (suc i) x there is = let w = map_at f xs i x (omega (arith, there)) is in let l = w.0 in (omega (arith, l), w.1)
+
+-- ---- a look, which appends nothing on the target's slot
+
+module _ (o : Opening) (old new : Run) (target : ShardRecord) (same : entries_on target.slot new ≡ entries_on target.slot old) where
+  up_to-same : (s : Looked) → IsUpTo o old target s → IsUpTo o new target s
+  up_to-same s is = record {
+    copied = λ n of. subst (λ (b : Bool). IsTrue b) (sym (copied_all-same old new target.slot s.0.slot n same)) (is.copied n of);
+    level = λ n at. is.level n (sym (position-same old new target.slot s.0.slot same) ∙ at);
+  }
+
+  pub followed-same : (sources : List Looked) → AreFollowed o old target sources → AreFollowed o new target sources
+  followed-same [] all = tt
+  followed-same (s ∷ sources) all = (λ own. up_to-same s (all.0 own), followed-same sources all.1)

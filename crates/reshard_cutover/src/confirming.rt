@@ -1,5 +1,5 @@
 //! What earlier calls did is looked at again under the locks: which sources are retired, and which targets serve.
-ghost use Rattle.std.specs.Prelude.{◌≡◌, true, List, Contains, IsTrue, map};
+ghost use Rattle.std.specs.Prelude.{List, Contains, IsTrue, map};
 ghost use Rattle.std.specs.List.{AllByRecursion};
 ghost use Rattle.journal.specs.Runs.{IsLegal};
 ghost use Rattle.shard_run.specs.Openings.{IsOpening};
@@ -13,30 +13,11 @@ use crate::steps::{SourceShard, is_source_of, serves};
 use crate::target::TargetShard;
 use follow::WorkflowShard;
 use journal::Naming;
-use shard::{ShardPass, ShardState, World};
+use shard::{ShardPass, World};
 use shard_run::ShardRecord;
 use std::sync::Wait;
 
-// Whether the source is retired for the target, and has stored as many entries as it is said to have.
-fn try_retired_for<W: World, J: Naming>(
-    state: &mut ShardState<W, J>,
-    source: &SourceShard<W, J>,
-    target: &ShardRecord,
-    pass: &mut ShardPass<W, J>,
-) -> bool
-    requires legal { IsLegal (MayFollow W.opening) pass.old.seen }
-    ensures retired { result ≡ true → (targets : List ShardRecord) × IsRetired pass.new.seen (source.now.member.which, source.now.stored) targets × Contains targets target.now }
-    ensures alone { HasLookedOnlyAt source.now.member.which.slot pass.old pass.new }
-    ensures onward { IsOnward W.opening pass.old pass.new }
-{
-    if !state.is(&source.member.which) {
-        return false;
-    }
-    let _ = state.look(pass);
-    state.is_retired_for(target, source.stored)
-}
-
-// Looks until the source is retired for the target.
+// Looks at the source once it is retired for the target, and has stored as many entries as it is said to have.
 fn confirm<W: World, J: Naming>(
     rt: &impl Wait,
     source: &SourceShard<W, J>,
@@ -48,12 +29,10 @@ fn confirm<W: World, J: Naming>(
     ensures alone { HasLookedOnlyAt source.now.member.which.slot pass.old pass.new }
     ensures onward { IsOnward W.opening pass.old pass.new }
 {
-    for _ in rt.forever() {
-        if try_retired_for(&mut source.member.shard.lock(rt), source, target, pass) {
-            return;
-        }
-    }
-    unreachable!()
+    let mut state = source.member.shard.state().lock_when(rt, |state| {
+        state.is(&source.member.which) && state.is_retired_for(target, source.stored)
+    });
+    let _ = state.look(pass);
 }
 
 // Confirms that a source is retired for the target, if it is one of the target's.
@@ -92,21 +71,7 @@ pub fn confirm_retired<W: World, J: Naming>(
     }
 }
 
-// Whether the source is retired.
-fn try_gone<W: World, J: Naming>(
-    state: &mut ShardState<W, J>,
-    which: &ShardRecord,
-    pass: &mut ShardPass<W, J>,
-) -> bool
-    requires legal { IsLegal (MayFollow W.opening) pass.old.seen }
-    ensures gone { result ≡ true → IsGone pass.new.seen which.now }
-    ensures onward { IsOnward W.opening pass.old pass.new }
-{
-    let _ = state.look(pass);
-    state.is(which) && state.is_retired()
-}
-
-// Looks until the source is retired.
+// Looks at the source once it is retired.
 fn confirm_gone<W: World, J: Naming>(
     rt: &impl Wait,
     member: &WorkflowShard<W, J>,
@@ -116,36 +81,14 @@ fn confirm_gone<W: World, J: Naming>(
     ensures gone { IsGone pass.new.seen member.now.which }
     ensures onward { IsOnward W.opening pass.old pass.new }
 {
-    for _ in rt.forever() {
-        if try_gone(&mut member.shard.lock(rt), &member.which, pass) {
-            return;
-        }
-    }
-    unreachable!()
-}
-
-// Whether the target serves.
-fn try_served<W: World, J: Naming>(
-    state: &mut ShardState<W, J>,
-    which: &ShardRecord,
-    pass: &mut ShardPass<W, J>,
-) -> bool
-    requires opens { IsOpening W.opening }
-    requires legal { IsLegal (MayFollow W.opening) pass.old.seen }
-    ensures served { result ≡ true → HasBegunToServe pass.new.seen which.now }
-    ensures onward { IsOnward W.opening pass.old pass.new }
-{
+    let mut state = member
+        .shard
+        .state()
+        .lock_when(rt, |state| state.is(&member.which) && state.is_retired());
     let _ = state.look(pass);
-    if !state.is(which) {
-        return false;
-    }
-    if which.sources.as_slice().is_empty() {
-        return false;
-    }
-    serves(state)
 }
 
-// Looks until the target serves.
+// Looks at the target once it serves.
 fn confirm_served<W: World, J: Naming>(
     rt: &impl Wait,
     member: &WorkflowShard<W, J>,
@@ -156,12 +99,11 @@ fn confirm_served<W: World, J: Naming>(
     ensures served { HasBegunToServe pass.new.seen member.now.which }
     ensures onward { IsOnward W.opening pass.old pass.new }
 {
-    for _ in rt.forever() {
-        if try_served(&mut member.shard.lock(rt), &member.which, pass) {
-            return;
-        }
-    }
-    unreachable!()
+    let which = &member.which;
+    let mut state = member.shard.state().lock_when(rt, |state| {
+        state.is(which) && serves(state) && !which.sources.as_slice().is_empty()
+    });
+    let _ = state.look(pass);
 }
 
 fn all_gone<W: World, J: Naming>(

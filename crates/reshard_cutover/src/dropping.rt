@@ -11,34 +11,21 @@ use crate::steps::SourceShard;
 use follow::WorkflowShard;
 use journal::Naming;
 use shard::{ShardPass, ShardState, World};
-use shard_run::{Mode, ShardRecord};
+use shard_run::Mode;
 use std::sync::Wait;
 
-// Drops the shard's rows, if it is this one and retired. Whether it is out of use.
-fn try_drop<W: World, J: Naming>(
-    state: &mut ShardState<W, J>,
-    which: &ShardRecord,
-    pass: &mut ShardPass<W, J>,
-) -> bool
-    requires legal { IsLegal (MayFollow W.opening) pass.old.seen }
-    ensures out { result ≡ true → mode W.opening pass.new.seen which.now.slot ≡ Mode.Retired }
-    ensures onward { IsOnward W.opening pass.old pass.new }
+// Whether the shard is retired, and so out of use, with its rows or without.
+fn is_out_of_use<W: World, J: Naming>(state: &ShardState<W, J>) -> bool
+    ensures { result ≡ true → mode W.opening state.now.seen state.now.shard.slot ≡ Mode.Retired }
 {
-    let _ = state.look(pass);
-    if !state.is(which) {
-        return false;
-    }
     match state.mode() {
-        Mode::Retired => {
-            state.drop_rows();
-            true
-        }
+        Mode::Retired => true,
         Mode::Dropped => true,
         _ => false,
     }
 }
 
-// Drops the rows of a shard under its lock; it tries until the shard is out of use.
+// Drops the rows of a shard under its lock, once it is out of use.
 fn drop_rows<W: World, J: Naming>(
     rt: &impl Wait,
     member: &WorkflowShard<W, J>,
@@ -48,12 +35,12 @@ fn drop_rows<W: World, J: Naming>(
     ensures out { mode W.opening pass.new.seen member.now.which.slot ≡ Mode.Retired }
     ensures onward { IsOnward W.opening pass.old pass.new }
 {
-    for _ in rt.forever() {
-        if try_drop(&mut member.shard.lock(rt), &member.which, pass) {
-            return;
-        }
-    }
-    unreachable!()
+    let mut state = member.shard.state().lock_when(
+        rt,
+        |state| state.is(&member.which) && is_out_of_use(state),
+    );
+    let _ = state.look(pass);
+    state.drop_rows();
 }
 
 /// Drops the rows of each of the sources, which are retired. Takes no memory.

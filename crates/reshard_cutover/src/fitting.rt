@@ -1,5 +1,5 @@
 //! Whether the targets have no more rows than shards that serve may have.
-ghost use Rattle.std.specs.Prelude.{◌≡◌, ◌<◌, ◌≤◌, true, false, Some, Contains, map};
+ghost use Rattle.std.specs.Prelude.{◌≡◌, ◌<◌, ◌≤◌, true, false, Contains, map};
 ghost use Rattle.std.specs.List.{AllByRecursion};
 ghost use Rattle.journal.specs.Runs.{IsLegal};
 ghost use Rattle.shard_run.specs.Runs.{shard_rows};
@@ -10,38 +10,13 @@ ghost use Rattle.follow.specs.Turns.{EachInTurn};
 ghost use Rattle.reshard_cutover.specs.TargetSources.{TargetWithSources};
 ghost use Rattle.reshard_cutover.specs.Looks.{HasLookedOnlyAt, IsOverfull, IsWithinRows};
 
-use crate::steps::follows;
 use crate::target::TargetShard;
-use follow::WorkflowShard;
+use follow::{WorkflowShard, follows};
 use journal::Naming;
-use shard::{ShardPass, ShardState, World};
-use shard_run::ShardRecord;
+use shard::{ShardPass, World};
 use std::sync::Wait;
 
-// Whether the target fits, if the state is its own and it follows.
-fn try_fits<W: World, J: Naming>(
-    state: &mut ShardState<W, J>,
-    which: &ShardRecord,
-    pass: &mut ShardPass<W, J>,
-) -> Option<bool>
-    requires legal { IsLegal (MayFollow W.opening) pass.old.seen }
-    ensures many { result ≡ Some false → W.limits.rows < row_count (shard_rows W.opening pass.new.seen which.now) }
-    ensures few { result ≡ Some true → row_count (shard_rows W.opening pass.new.seen which.now) ≤ W.limits.rows }
-    ensures alone { HasLookedOnlyAt which.now.slot pass.old pass.new }
-    ensures onward { IsOnward W.opening pass.old pass.new }
-{
-    if !state.is(which) {
-        return None;
-    }
-    let _ = state.look(pass);
-    if follows(state) {
-        Some(state.fits())
-    } else {
-        None
-    }
-}
-
-// Whether a target's rows fit, asked under its lock; it tries until the target follows.
+// Whether a target's rows fit, asked under its lock, once it follows.
 fn fits<W: World, J: Naming>(
     rt: &impl Wait,
     member: &WorkflowShard<W, J>,
@@ -53,12 +28,12 @@ fn fits<W: World, J: Naming>(
     ensures alone { HasLookedOnlyAt member.now.which.slot pass.old pass.new }
     ensures onward { IsOnward W.opening pass.old pass.new }
 {
-    for _ in rt.forever() {
-        if let Some(fits) = try_fits(&mut member.shard.lock(rt), &member.which, pass) {
-            return fits;
-        }
-    }
-    unreachable!()
+    let mut state = member
+        .shard
+        .state()
+        .lock_when(rt, |state| state.is(&member.which) && follows(state));
+    let _ = state.look(pass);
+    state.fits()
 }
 
 // Promise: Before the first source retires, each target is looked at: yes is answered only if each had no more rows than a shard that

@@ -1,10 +1,9 @@
-//! The steps that change a shard's mode. A lock can't tell which shard it holds and in which mode the controller left it, so both are
-//! tested under it; if they differ, which no run of one controller meets, the lock is taken again.
-ghost use Rattle.std.specs.Prelude.{◌≡◌, ◌≤◌, ◌^◌, ◌∷◌, [], true, false, IsTrue, IfOk, IfErr, IfSome, MatchOption, OnOk, OnErr, length, map};
+//! The steps that change a shard's mode, each under its lock, once it is in the mode that the controller left it in.
+ghost use Rattle.std.specs.Prelude.{◌≡◌, ◌≤◌, ◌^◌, ◌∷◌, [], true, false, IsTrue, IfOk, IfErr, OnOk, OnErr, length, map};
 ghost use Rattle.journal.specs.Runs.{IsLegal};
 ghost use Rattle.shard_run.specs.declared.Event.{Event};
-ghost use Rattle.shard_run.specs.Runs.{mode, stored_on, entries_on};
-ghost use Rattle.shard_run.specs.Openings.{IsOpening};
+ghost use Rattle.shard_run.specs.Runs.{mode, stored_on, entries_on, shard_rows};
+ghost use Rattle.shard_run.specs.Openings.{IsOpening, row_count};
 ghost use Rattle.shard_law.specs.Entries.{MayFollow};
 ghost use Rattle.follow.specs.Steps.{IsOnward, HasStepped};
 ghost use Rattle.follow.specs.Turns.{HasLookedAt};
@@ -12,7 +11,7 @@ ghost use Rattle.reshard_cutover.specs.Looks.{HasLookedForOneChange, HasLookedOn
 ghost use Rattle.reshard_cutover.specs.Steps.{has_source, AreRetired, IsTargetOf, FitTargets};
 ghost use Rattle.reshard_cutover.specs.inner.Steps.{IsUpTo, AreFollowed};
 
-use follow::WorkflowShard;
+use follow::{WorkflowShard, follows};
 use journal::Naming;
 use shard::{MOST_ENTRIES, Shard, ShardPass, ShardState, World};
 use shard_run::Mode;
@@ -38,35 +37,6 @@ pub fn serves<W: World, J: Naming>(state: &ShardState<W, J>) -> bool
     }
 }
 
-// Freezes the shard, if it is this one and serves.
-fn try_freeze<W: World, J: Naming>(
-    state: &mut ShardState<W, J>,
-    which: &shard_run::ShardRecord,
-    pass: &mut ShardPass<W, J>,
-) -> Result<Option<u64>, Refusal>
-    requires legal { IsLegal (MayFollow W.opening) pass.old.seen }
-    ensures ok { IfOk result (λ r. IfSome r (λ stored. HasStepped W.opening which.now Event.Freeze pass.old pass.new
-        × (stored ≡ length (stored_on which.now.slot pass.new.seen)))) }
-    ensures looked { IfOk result (λ r. MatchOption r (pass.new ≡ pass.old) (λ _. HasLookedForOneChange which.now.slot pass.old pass.new)) }
-    ensures full { IfErr result (λ e. (e ≡ Refusal.ShardFull) × (2 ^ 40 ≤ length (entries_on which.now.slot pass.new.seen))) }
-    ensures refused { OnErr result (HasLookedAt (which.now.slot ∷ []) pass.old pass.new) }
-    ensures onward { IsOnward W.opening pass.old pass.new }
-{
-    if !state.is(which) {
-        return Ok(None);
-    }
-    if !serves(state) {
-        return Ok(None);
-    }
-    let entries = state.look(pass);
-    if entries >= MOST_ENTRIES {
-        return Err(Refusal::ShardFull);
-    }
-    let stored = state.stored();
-    state.freeze(pass);
-    Ok(Some(stored))
-}
-
 // Promise: A step of a cutover is exactly one entry of its shard, made after a look under its lock: a freeze (refused only at 2^40
 // entries), a thaw, a retirement for targets that together hold the shard's place, when it has stored just so many entries, and a target
 // that serves once its sources, of which there may be several, are retired for it and it has copied all tables and followed all that they
@@ -89,40 +59,22 @@ pub fn freeze<W: World, J: Naming>(
     ensures refused { OnErr result (HasLookedAt (which.now.slot ∷ []) pass.old pass.new) }
     ensures onward { OnErr result (IsOnward W.opening pass.old pass.new) }
 {
-    for _ in rt.forever() {
-        let frozen = try_freeze(&mut shard.lock(rt), which, pass)?;
-        if let Some(stored) = frozen {
-            return Ok(stored);
-        }
+    let mut state = shard
+        .state()
+        .lock_when(rt, |state| state.is(which) && serves(state));
+    let entries = state.look(pass);
+    if entries >= MOST_ENTRIES {
+        return Err(Refusal::ShardFull);
     }
-    unreachable!()
+    let stored = state.stored();
+    state.freeze(pass);
+    Ok(stored)
 }
 
 fn is_frozen<W: World, J: Naming>(state: &ShardState<W, J>) -> bool
     ensures { result ≡ true → mode W.opening state.now.seen state.now.shard.slot ≡ Mode.Frozen }
 {
     state.mode() == Mode::Frozen
-}
-
-// Thaws the shard, if it is this one and frozen.
-fn try_thaw<W: World, J: Naming>(
-    state: &mut ShardState<W, J>,
-    which: &shard_run::ShardRecord,
-    pass: &mut ShardPass<W, J>,
-) -> bool
-    requires legal { IsLegal (MayFollow W.opening) pass.old.seen }
-    ensures thawed { result ≡ true → HasStepped W.opening which.now Event.Thaw pass.old pass.new }
-    ensures onward { IsOnward W.opening pass.old pass.new }
-{
-    let _ = state.look(pass);
-    if !state.is(which) {
-        return false;
-    }
-    if !is_frozen(state) {
-        return false;
-    }
-    state.thaw(pass);
-    true
 }
 
 /// Thaws the shard. Takes no memory.
@@ -135,42 +87,19 @@ pub fn thaw<W: World, J: Naming>(
     requires legal { IsLegal (MayFollow W.opening) pass.old.seen }
     ensures { HasStepped W.opening which.now Event.Thaw pass.old pass.new }
 {
-    for _ in rt.forever() {
-        if try_thaw(&mut shard.lock(rt), which, pass) {
-            return;
-        }
-    }
-    unreachable!()
+    let mut state = shard
+        .state()
+        .lock_when(rt, |state| state.is(which) && is_frozen(state));
+    let _ = state.look(pass);
+    state.thaw(pass);
 }
 
-// Retires the shard, if it is this one, frozen, and has stored so many entries; else the targets come back.
-fn try_retire<W: World, J: Naming>(
-    state: &mut ShardState<W, J>,
-    which: &shard_run::ShardRecord,
-    pass: &mut ShardPass<W, J>,
-    targets: Items<shard_run::ShardRecord>,
-    stored: u64,
-) -> Result<(), Items<shard_run::ShardRecord>>
-    requires legal { IsLegal (MayFollow W.opening) pass.old.seen }
-    requires fit { FitTargets which.now targets }
-    ensures retired { OnOk result (HasStepped W.opening which.now (Event.Retire targets) pass.old pass.new) }
-    ensures stored { OnOk result (stored ≡ length (stored_on which.now.slot pass.new.seen)) }
-    ensures alone { HasLookedOnlyAt which.now.slot pass.old pass.new }
-    ensures onward { OnErr result (IsOnward W.opening pass.old pass.new) }
-    ensures back { IfErr result (λ t. t ≡ targets) }
+// Whether the shard is frozen, and has stored so many entries.
+fn is_frozen_after<W: World, J: Naming>(state: &ShardState<W, J>, stored: u64) -> bool
+    ensures frozen { result ≡ true → mode W.opening state.now.seen state.now.shard.slot ≡ Mode.Frozen }
+    ensures stored { result ≡ true → stored ≡ length (stored_on state.now.shard.slot state.now.seen) }
 {
-    if !state.is(which) {
-        return Err(targets);
-    }
-    let _ = state.look(pass);
-    if is_frozen(state) {
-        let now = state.stored();
-        if now == stored {
-            state.retire(pass, targets);
-            return Ok(());
-        }
-    }
-    Err(targets)
+    is_frozen(state) && state.stored() == stored
 }
 
 /// Retires the shard, which has stored so many entries, for its targets, whose list was made before. Takes no memory.
@@ -188,20 +117,11 @@ pub fn retire<W: World, J: Naming>(
     ensures stored { stored ≡ length (stored_on which.now.slot pass.new.seen) }
     ensures alone { HasLookedOnlyAt which.now.slot pass.old pass.new }
 {
-    let mut targets = targets;
-    for _ in rt.forever() {
-        match try_retire(&mut shard.lock(rt), which, pass, targets, stored) {
-            Ok(()) => return,
-            Err(again) => targets = again,
-        }
-    }
-    unreachable!()
-}
-
-pub(crate) fn follows<W: World, J: Naming>(state: &ShardState<W, J>) -> bool
-    ensures { result ≡ true → mode W.opening state.now.seen state.now.shard.slot ≡ Mode.Following }
-{
-    state.mode() == Mode::Following
+    let mut state = shard.state().lock_when(rt, |state| {
+        state.is(which) && is_frozen_after(state, stored)
+    });
+    let _ = state.look(pass);
+    state.retire(pass, targets);
 }
 
 // Whether the target has copied each table of its keyspace from the source, and stands after all that it has stored.
@@ -268,33 +188,20 @@ fn is_level<W: World, J: Naming>(
     true
 }
 
-// Serves the target, if it is this one, follows, is level with its sources, and has no more rows than a shard that serves may have.
-fn try_serve<W: World, J: Naming>(
-    state: &mut ShardState<W, J>,
+// Whether it is the target, which follows, is level with its sources, and has no more rows than a shard that serves may have.
+fn may_serve<W: World, J: Naming>(
+    state: &ShardState<W, J>,
     target: &shard_run::ShardRecord,
-    pass: &mut ShardPass<W, J>,
     schema: &VSchema,
     sources: &[SourceShard<W, J>],
 ) -> bool
-    requires opens { IsOpening W.opening }
     requires schema { schema.now ≡ W.opening.schema }
-    requires legal { IsLegal (MayFollow W.opening) pass.old.seen }
-    requires of_sources { IsTargetOf (map (λ s. s.member.which) sources.now) target.now }
-    requires retired { AreRetired pass.old.seen target.now (map (λ s. (s.member.which, s.stored)) sources.now) }
-    ensures served { result ≡ true → HasStepped W.opening target.now Event.Serve pass.old pass.new }
-    ensures alone { HasLookedOnlyAt target.now.slot pass.old pass.new }
-    ensures onward { IsOnward W.opening pass.old pass.new }
+    ensures is { result ≡ true → state.now.shard ≡ target.now }
+    ensures follows { result ≡ true → mode W.opening state.now.seen state.now.shard.slot ≡ Mode.Following }
+    ensures level { result ≡ true → AreFollowed W.opening state.now.seen state.now.shard (map (λ s. (s.member.which, s.stored)) sources.now) }
+    ensures few { result ≡ true → row_count (shard_rows W.opening state.now.seen state.now.shard) ≤ W.limits.rows }
 {
-    if !state.is(target) {
-        return false;
-    }
-    let _ = state.look(pass);
-    if follows(state) && is_level(state, schema, sources) && state.fits() {
-        state.serve(pass);
-        true
-    } else {
-        false
-    }
+    state.is(target) && follows(state) && is_level(state, schema, sources) && state.fits()
 }
 
 /// Serves a target that has copied and followed all that its sources have stored, and has no more rows than a shard that serves may have,
@@ -314,16 +221,11 @@ pub fn serve<W: World, J: Naming>(
     ensures served { HasStepped W.opening target.now.which Event.Serve pass.old pass.new }
     ensures alone { HasLookedOnlyAt target.now.which.slot pass.old pass.new }
 {
-    for _ in rt.forever() {
-        if try_serve(
-            &mut target.shard.lock(rt),
-            &target.which,
-            pass,
-            schema,
-            sources,
-        ) {
-            return;
-        }
-    }
-    unreachable!()
+    let which = &target.which;
+    let mut state = target
+        .shard
+        .state()
+        .lock_when(rt, |state| may_serve(state, which, schema, sources));
+    let _ = state.look(pass);
+    state.serve(pass);
 }

@@ -1,47 +1,19 @@
 //! A cutover is given up: its sources serve as before.
-ghost use Rattle.std.specs.Prelude.{◌≡◌, true, map};
+ghost use Rattle.std.specs.Prelude.{map};
 ghost use Rattle.std.specs.List.{AllByRecursion};
 ghost use Rattle.journal.specs.Runs.{IsLegal};
-ghost use Rattle.shard_run.specs.Runs.{mode};
 ghost use Rattle.shard_law.specs.Entries.{MayFollow};
 ghost use Rattle.follow.specs.Steps.{IsOnward};
 ghost use Rattle.follow.specs.Turns.{EachInTurn};
-ghost use Rattle.reshard_cutover.specs.Looks.{HasLookedOnlyAt, HasThawed, IsServingAgain};
+ghost use Rattle.reshard_cutover.specs.Looks.{HasThawed, IsServingAgain};
 
-use crate::steps::SourceShard;
-use follow::WorkflowShard;
+use crate::steps::{SourceShard, serves};
+use follow::{WorkflowShard, answers};
 use journal::Naming;
-use shard::{ShardPass, ShardState, World};
-use shard_run::{Mode, ShardRecord};
+use shard::{ShardPass, World};
 use std::sync::Wait;
 
-// Thaws the shard, if it is this one and frozen, and has it drop what it keeps for its targets. Whether it serves now.
-fn try_unfreeze<W: World, J: Naming>(
-    state: &mut ShardState<W, J>,
-    which: &ShardRecord,
-    pass: &mut ShardPass<W, J>,
-) -> bool
-    requires legal { IsLegal (MayFollow W.opening) pass.old.seen }
-    ensures serves { result ≡ true → mode W.opening pass.new.seen which.now.slot ≡ Mode.Serving }
-    ensures alone { HasLookedOnlyAt which.now.slot pass.old pass.new }
-    ensures onward { IsOnward W.opening pass.old pass.new }
-{
-    if !state.is(which) {
-        return false;
-    }
-    let _ = state.look(pass);
-    state.drop_sorted();
-    match state.mode() {
-        Mode::Frozen => {
-            state.thaw(pass);
-            true
-        }
-        Mode::Serving => true,
-        _ => false,
-    }
-}
-
-// Thaws a source under its lock; it tries until the source serves.
+// Thaws a source under its lock, once it serves or is frozen, and has it drop what it keeps for its targets.
 fn unfreeze<W: World, J: Naming>(
     rt: &impl Wait,
     member: &WorkflowShard<W, J>,
@@ -51,12 +23,16 @@ fn unfreeze<W: World, J: Naming>(
     ensures thawed { HasThawed W.opening member.now.which pass.old pass.new }
     ensures onward { IsOnward W.opening pass.old pass.new }
 {
-    for _ in rt.forever() {
-        if try_unfreeze(&mut member.shard.lock(rt), &member.which, pass) {
-            return;
-        }
+    let mut state = member
+        .shard
+        .state()
+        .lock_when(rt, |state| state.is(&member.which) && answers(state));
+    let _ = state.look(pass);
+    state.drop_sorted();
+    if serves(&state) {
+        return;
     }
-    unreachable!()
+    state.thaw(pass);
 }
 
 // Promise: The sources of a cutover that is given up are thawed one after the other: what the pass has seen when it leaves one ends with that one

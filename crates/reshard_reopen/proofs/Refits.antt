@@ -9,18 +9,18 @@ use Rattle.keyrange.specs.Names.{IsNamed}
 use Rattle.serving.specs.Partitions.{Seat, IsPartition, AreOf, ranges}
 use Rattle.shard_run.specs.declared.ShardRecord.{ShardRecord}
 use Rattle.shard_law.proofs.Lists.{In, Contains-from_In, In-map, In-from_filter, In-all, all-from_In, all-weaker}
-use Rattle.reshard_create.specs.Choices.{holders, HoldTheSame}
+use Rattle.reshard_split.specs.Choices.{holders, HoldTheSame}
 use Rattle.reshard_cutover.specs.Steps.{named_for, FitTargets, IsTargetOf}
-use Rattle.reshard_create.specs.Splits.{target_seats, IsSplit}
-use Rattle.reshard_create.specs.inner.Takes.{TakesFrom}
+use Rattle.reshard_split.specs.Splits.{target_seats, IsSplit}
+use Rattle.reshard_split.specs.inner.Takes.{TakesFrom}
 use Rattle.shard.specs.Seats.{seat_of}
 use Rattle.reshard_cutover.specs.TargetSources.{TargetWithSources, shards_of}
 use Rattle.shard_run.specs.declared.Mode.TheVariants.{Serving, Frozen, Retired}
 use Rattle.reshard_reopen.specs.Rebuilt.{FoundView, IsCutoverProgress, others, MayReplace, IsRefitted}
 use Rattle.reshard_reopen.specs.inner.Snapshots.{IsRebuiltTarget}
-use Rattle.reshard_create.proofs.Ranges.{counted-append}
-use Rattle.reshard_create.proofs.Splits.{fit, is_target}
-use Rattle.reshard_create.proofs.Begins.{map_twice, all_map}
+use Rattle.reshard_split.proofs.Counting.{counted-append}
+use Rattle.reshard_split.proofs.Splits.{fit, is_target}
+use Rattle.reshard_split.proofs.Lists.{map_twice, all_map}
 use Rattle.reshard_reopen.proofs.Taken.{takes_from}
 
 both : {X : Type 0} (P : X → Type 0) (xs ys : List X) → AllByRecursion P xs → AllByRecursion P ys → AllByRecursion P (xs ++ ys)

@@ -2,12 +2,12 @@
 use Rattle.std.proofs.Common.{◌≡◌, List, [], ◌∷◌, map, sym, subst}
 use Rattle.std.specs.List.{AllByRecursion}
 use Rattle.shard_run.specs.declared.ShardRecord.{ShardRecord}
-use Rattle.reshard_create.specs.inner.Takes.{TakesFrom}
+use Rattle.reshard_split.specs.inner.Takes.{TakesFrom}
 use Rattle.reshard_cutover.specs.TargetSources.{TargetWithSources}
 use Rattle.reshard_reopen.specs.inner.Snapshots.{IsRebuiltTarget}
-use Rattle.reshard_create.proofs.Begins.{map_twice}
+use Rattle.reshard_split.proofs.Lists.{map_twice}
 use Rattle.reshard_reopen.specs.Rebuilt.{FoundView, TakesThose}
-use Rattle.reshard_create.proofs.Those.{among_those, all_those}
+use Rattle.reshard_split.proofs.Those.{among_those, all_those}
 
 pub takes_from : (sources : List ShardRecord) (target : ShardRecord) → TakesThose sources target → TakesFrom sources target
 takes_from sources target is = record {

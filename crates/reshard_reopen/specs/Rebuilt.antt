@@ -19,7 +19,7 @@ use Rattle.shard.specs.Seats.{seat_of}
 use Rattle.reshard_cutover.specs.Steps.{HasEntry, has_source}
 use Rattle.reshard_cutover.specs.TargetSources.{TargetWithSources, shards_of}
 use Rattle.reshard_cutover.specs.Overlapping.{AreThose}
-use Rattle.reshard_create.specs.Splits.{IsSplit, target_seats}
+use Rattle.reshard_split.specs.Splits.{IsSplit, target_seats}
 
 -- a shard, its mode, and the targets that it named as it retired
 abbrev pub FoundView : Type 0

@@ -1,11 +1,11 @@
 //! The shards of a workflow that stopped, each looked at once under its lock.
 ghost use Rattle.shard_run.specs.declared.ShardRecord as which;
-ghost use Rattle.std.specs.Prelude.{◌≡◌, IfOk, IfSome, map};
+ghost use Rattle.std.specs.Prelude.{◌≡◌, IfOk, map};
 ghost use Rattle.journal.specs.Runs.{IsLegal};
 ghost use Rattle.shard_run.specs.Runs.{mode};
 ghost use Rattle.shard_law.specs.Entries.{MayFollow};
 ghost use Rattle.follow.specs.Steps.{IsOnward};
-ghost use Rattle.shard.specs.Seats.{seat_of};
+ghost use Rattle.shard.specs.Seats.{seat_of, place_at};
 ghost use Rattle.reshard_reopen.specs.Rebuilt.{IsFound, AreFound};
 ghost use Rattle.reshard_reopen.specs.inner.Snapshots.{IsSnapshot};
 
@@ -80,32 +80,27 @@ fn copy_shards(
     Ok(copies)
 }
 
-// One look, if it is the shard of this slot and place.
+// One look at the shard.
 fn look_at<W: World, J: Naming>(
     state: &mut ShardState<W, J>,
     alloc: Global,
     pass: &mut ShardPass<W, J>,
-    slot: usize,
-    place: &Place,
-) -> Result<Option<ShardSnapshot>, AllocError>
+) -> Result<ShardSnapshot, AllocError>
     requires legal { IsLegal (MayFollow W.opening) pass.old.seen }
-    ensures seen { IfOk result (λ r. IfSome r (λ g. IsSnapshot W.opening pass.new.seen slot place.now g.which g.mode g.named)) }
+    ensures seen { IfOk result (λ g. IsSnapshot W.opening pass.new.seen state.old.shard.slot state.old.shard.place g.which g.mode g.named) }
     ensures onward { IsOnward W.opening pass.old pass.new }
 {
     let _ = state.look(pass);
-    if !state.stands_at(slot, place) {
-        return Ok(None);
-    }
     let which = copy_shard(alloc, state.shard())?;
     let named = copy_shards(alloc, state.named())?;
-    Ok(Some(ShardSnapshot {
+    Ok(ShardSnapshot {
         which,
         mode: mode_of(state),
         named,
         stored: stored_of(state),
         dropped: is_dropped(state),
         given_up: state.is_given_up(),
-    }))
+    })
 }
 
 // Looks at the shard of a part under its lock.
@@ -114,14 +109,21 @@ fn look_locked<W: World, J: Naming>(
     alloc: Global,
     pass: &mut ShardPass<W, J>,
     part: &ShardReference<Shard<W, J>>,
-    slot: usize,
-    place: &Place,
-) -> Result<Option<ShardSnapshot>, AllocError>
+) -> Result<ShardSnapshot, AllocError>
     requires legal { IsLegal (MayFollow W.opening) pass.old.seen }
-    ensures seen { IfOk result (λ r. IfSome r (λ g. IsSnapshot W.opening pass.new.seen slot place.now g.which g.mode g.named)) }
+    ensures seen { IfOk result (λ g. IsSnapshot W.opening pass.new.seen part.now.0 (place_at part.now) g.which g.mode g.named) }
     ensures onward { IsOnward W.opening pass.old pass.new }
 {
-    look_at(&mut part.shard().lock(rt), alloc, pass, slot, place)
+    let place = Place {
+        keyspace: part.keyspace(),
+        range: part.range(),
+    };
+    let slot = part.slot();
+    let mut state = part
+        .shard()
+        .state()
+        .lock_when(rt, |state| state.stands_at(slot, &place));
+    look_at(&mut state, alloc, pass)
 }
 
 fn found_of<W: World, J: Naming>(
@@ -152,7 +154,7 @@ fn found_of<W: World, J: Naming>(
     })
 }
 
-// The shard of a part. A lock can't tell which shard it holds, so that is tested; if it is another, which no run meets, it is taken again.
+// The shard of a part.
 fn find<W: World, J: Naming>(
     rt: &impl Wait,
     alloc: Global,
@@ -165,18 +167,9 @@ fn find<W: World, J: Naming>(
     ensures shard { IfOk result (λ f. f.member.shard.value ≡ part.now) }
     ensures onward { IsOnward W.opening pass.old pass.new }
 {
-    let place = Place {
-        keyspace: part.keyspace(),
-        range: part.range(),
-    };
-    let slot = part.slot();
-    for _ in rt.forever() {
-        if let Some(snapshot) = look_locked(rt, alloc, pass, part, slot, &place)? {
-            let found = found_of(part, snapshot)?;
-            return Ok(found);
-        }
-    }
-    unreachable!()
+    let snapshot = look_locked(rt, alloc, pass, part)?;
+    let found = found_of(part, snapshot)?;
+    Ok(found)
 }
 
 /// The shards of the parts, and the mode that a look at each finds.

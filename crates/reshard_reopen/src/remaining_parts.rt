@@ -6,7 +6,7 @@ ghost use Rattle.serving.specs.Partitions.{AreOf, ranges};
 ghost use Rattle.reshard_reopen.specs.Rebuilt.{others, MayReplace};
 
 use keyrange::covers_once;
-use reshard_create::{MOST_PARTS, next_ranges};
+use reshard_split::{MOST_PARTS, next_ranges};
 use serving::{Seated, ShardReference, copy_part};
 use std::alloc::{AllocError, Global};
 

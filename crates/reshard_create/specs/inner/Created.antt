@@ -1,8 +1,8 @@
 -- What `create` finds.
-use Rattle.std.specs.Prelude.{◌≡◌, ℕ, Bool, ◌+◌, ◌≤◌, ◌++◌, ◌∷◌, [], List, length, map, Contains, count_by}
+use Rattle.std.specs.Prelude.{◌≡◌, ℕ, Bool, ◌+◌, ◌≤◌, ◌++◌, List, length, map, Contains, count_by}
 use Rattle.std.specs.List.{AllByRecursion}
 use Rattle.keyrange.specs.declared.KeyRange.{KeyRange}
-use Rattle.keyrange.specs.Ranges.{Overlap, Cover}
+use Rattle.keyrange.specs.Ranges.{Cover}
 use Rattle.keyrange.specs.Names.{IsNamed}
 use Rattle.serving.specs.Partitions.{Seat, IsPartition, AreOf}
 use Rattle.vschema.specs.declared.schema.Place.{Place}
@@ -11,12 +11,10 @@ use Rattle.shard_run.specs.declared.ShardRecord as S
 use Rattle.shard_run.specs.declared.Entry.{Entry}
 use Rattle.shard_run.specs.declared.Mode.{Mode}
 use Rattle.shard_run.specs.Runs.{Run, Opening, IsShardOf, mode}
-use Rattle.reshard_create.specs.inner.Takes.{TakesFrom}
-use Rattle.reshard_create.specs.Begun.{WasSeen, IsServing, IsAway, TakesItsOwn}
+use Rattle.reshard_split.specs.inner.Takes.{TakesFrom}
+use Rattle.reshard_create.specs.Begun.{WasSeen, TakesItsOwn}
 use Rattle.shard.specs.Seats.{seat_of}
 use Rattle.reshard_cutover.specs.TargetSources.{TargetWithSources}
-use Rattle.reshard_create.specs.declared.targets.SourceState.{SourceState}
-use Rattle.reshard_create.specs.declared.targets.SourceState.TheVariants.{Serves, DoesNot, Another}
 
 -- of these seats the ones whose ranges are named, and the rest
 pub record AreNamed (ranges : List KeyRange) (seats taken rest : List Seat) : Type 0 where
@@ -39,12 +37,6 @@ pub record IsSighted (o : Opening) (run : Run) (slot : ℕ) (place : Place) (Suc
   pub of_run : IsShardOf o run s
   pub such : Such (mode o run s.slot)
 
--- what a look at the shard of the slot and place shows
-pub data IsSourceState (o : Opening) (run : Run) (slot : ℕ) (place : Place) : SourceState → Type 0 where
-  serves : {s : S.ShardRecord} → IsSighted o run slot place IsServing s → IsSourceState o run slot place (Serves s)
-  does_not : (s : S.ShardRecord) → IsSighted o run slot place IsAway s → IsSourceState o run slot place DoesNot
-  another : IsSourceState o run slot place Another
-
 -- the shard of the seat, as it was seen
 pub record IsSeenAt (o : Opening) (p now : PassView Entry) (keyspace : ℕ) (Such : Mode → Type 0) (seat : Seat) (s : S.ShardRecord) : Type 0 where
   pub slot : s.slot ≡ seat.0
@@ -53,11 +45,6 @@ pub record IsSeenAt (o : Opening) (p now : PassView Entry) (keyspace : ℕ) (Suc
 
 abbrev pub HasSeen : Opening → PassView Entry → PassView Entry → ℕ → (Mode → Type 0) → Seat → Type 0
 HasSeen o p now keyspace Such seat = (s : S.ShardRecord) × IsSeenAt o p now keyspace Such seat s
-
--- a list of those that overlap the range grows by the shard if it does
-pub data HasGrown (range : KeyRange) (s : S.ShardRecord) (old new : List S.ShardRecord) : Type 0 where
-  added : Overlap s.place.range range → new ≡ old ++ s ∷ [] → HasGrown range s old new
-  left : (Overlap s.place.range range → ⊥) → new ≡ old → HasGrown range s old new
 
 -- the target is in the keyspace, and takes from those of the sources that overlap it
 pub record IsMadeOf (sources : List S.ShardRecord) (keyspace : ℕ) (t : TargetWithSources) : Type 0 where

@@ -1,26 +1,44 @@
-use Rattle.reshard_cutover.proofs.Onward.{onward_trans}
+use Rattle.std.proofs.Common.{◌≡◌, sym, ap, ◌∙◌, subst, rules, refl}
+use Rattle.std.specs.Sync.Mutex.{mutex_guard_value}
+use Rattle.keyrange.specs.declared.KeyRange.{KeyRange}
+use Rattle.shard_run.specs.declared.ShardRecord.{ShardRecord}
+use Rattle.shard_run.specs.declared.Mode.TheVariants.{Following}
+use Rattle.shard_run.specs.Runs.{Run, mode}
+use Rattle.shard_law.specs.Legal.{IsOnItsSlot}
+use Rattle.shard.proofs.Found.{of_run}
+use Rattle.shard.proofs.LockedLooks.{LookedAs, looked_as, mode_stays}
+use Rattle.reshard_cutover.proofs.Onward.{looked_first}
 use Rattle.reshard_create.specs.Begun.{IsNotFollowing}
-use Rattle.reshard_create.proofs.SeenShards.{sighted_at}
 use Rattle.reshard_create.proofs.looks.look_at.Goals as goal
 
-pub returns-then-stands_once-clause-seen : goal.returns-then-stands_once-clause-seen
-returns-then-stands_once-clause-seen g c =
+pub returns-clause-sighted : goal.returns-clause-sighted
+returns-clause-sighted g c =
     let o = g.W.World.opening in
-    let now = c.stands_once.new.pass in
-    let h = c.stands_once.ensures.sighted c.if-stands_once.true in (
-      h.0,
-      sighted_at o c.args.pass.now now c.args.keyspace IsNotFollowing c.args.part.now c.slot-slot.result c.range.result h.0
-          (onward_trans o c.args.pass.now c.loop.pass now c.loop.invariant.onward c.stands_once.ensures.onward).later c.slot-slot.ensures c.range.ensures h.1,
-    )
+    let p = c.args.pass.now in
+    let q = c.look.new.pass in
+    let old = mutex_guard_value c.lock_when-state.result in
+    let new = c.look.new.self in
+    let on : old.shard.slot ≡ c.slot-slot.result = search rules in
+    let at : old.shard.place ≡ record { keyspace = c.args.keyspace; range = c.range.result } = search rules in
+    let past : mode o old.seen old.shard.slot ≡ Following → ⊥ = search rules in
+    let l : LookedAs o old.shard p q old new =
+    looked_as c.deref_mut.result.now c.deref_mut.ensures.value refl c.look.ensures.seen c.look.ensures.shard c.look.ensures.pass in
+    let stands : IsOnItsSlot o q.seen new.shard =
+    subst (λ (r : Run). IsOnItsSlot o r new.shard) (sym l.seen) (subst (IsOnItsSlot o new.seen) (sym c.look.ensures.shard) c.look.ensures.stands) in
+    let lives : IsNotFollowing (mode o q.seen new.shard.slot) =
+    λ f. past (sym (mode_stays l) ∙ ap (λ (r : Run). mode o r old.shard.slot) (sym l.seen) ∙ ap (λ (s : ShardRecord). mode o q.seen s.slot) (sym l.is) ∙ f) in
+    record {
+      on = ap (λ (s : ShardRecord). s.slot) l.is ∙ on ∙ c.slot-slot.ensures;
+      at =
+          ap (λ (s : ShardRecord). s.place) l.is ∙ at
+          ∙ ap (λ (r : KeyRange). record { keyspace = c.args.keyspace; range = r }) c.range.ensures;
+      of_run = of_run o q.seen new.shard stands lives;
+      such = lives;
+    }
 
-pub returns-then-stands_once-clause-onward : goal.returns-then-stands_once-clause-onward
-returns-then-stands_once-clause-onward g c =
-    onward_trans g.W.World.opening c.args.pass.now c.loop.pass c.stands_once.new.pass c.loop.invariant.onward c.stands_once.ensures.onward
+pub returns-clause-now : goal.returns-clause-now
+returns-clause-now g c = sym (ap (λ (x : Rattle.journal.specs.Views.PassView Rattle.shard_run.specs.declared.Entry.Entry). x.seen) c.look.ensures.pass)
 
-pub loop-preserved : goal.loop-preserved
-loop-preserved g c = record {
-  next = tt;
-  finite = tt;
-  onward =
-      onward_trans g.W.World.opening c.args.pass.now c.loop.pass c.stands_once.new.pass c.loop.invariant.onward c.stands_once.ensures.onward;
-}
+pub returns-clause-onward : goal.returns-clause-onward
+returns-clause-onward g c =
+    looked_first g.W.World.opening c.args.pass.now c.look.new.pass _ _ _ c.requires.legal c.look.ensures.seen c.look.ensures.pass

@@ -1,44 +1,73 @@
-use Rattle.std.proofs.Common.{List, refl, subst, sym, ◌∙◌}
+use Rattle.std.proofs.Common.{◌≡◌, length, refl, sym, ap, subst, ◌∙◌, rules}
+use Rattle.std.specs.Sync.Mutex.{mutex_guard_value}
 use Rattle.shard_run.specs.declared.ShardRecord.{ShardRecord}
 use Rattle.shard_run.specs.declared.Event.TheVariants.{Retire}
-use Rattle.follow.specs.Steps.{HasStepped}
+use Rattle.shard_run.specs.declared.Mode.TheVariants.{Frozen}
+use Rattle.shard_run.specs.Runs.{Run, mode, stored_on}
+use Rattle.shard_law.specs.Entries.{ShardView}
+use Rattle.shard.proofs.LockedLooks.{LookedAs, looked_as, mode_here, stored_stays}
+use Rattle.follow.specs.Steps.{IsOnward}
 use Rattle.reshard_cutover.specs.Steps.{FitTargets}
-use Rattle.reshard_cutover.proofs.Onward.{still, onward_trans, stepped_after}
-use Rattle.reshard_cutover.proofs.Thaws.{not_looked, looked_on}
+use Rattle.reshard_cutover.proofs.Onward.{looked_first, changed, stored_unchanged}
+use Rattle.reshard_cutover.proofs.Thaws.{look_alone, change_alone, looked_on}
 use Rattle.reshard_cutover.proofs.steps.retire.Goals as goal
+use Rattle.reshard_cutover.proofs.steps.retire.Goals.{After-deref_mut-2}
 
-pub try_retire-requires-clause-legal : goal.try_retire-requires-clause-legal
-try_retire-requires-clause-legal g c = c.loop.invariant.onward.legal
+-- the shard, as it was locked and looked at
+seen : (g : _) (c : goal.After-deref_mut-2 g)
+    → LookedAs g.W.World.opening c.args.which.now c.args.pass.now c.look.new.pass (mutex_guard_value c.lock_when-state.result) c.look.new.self
+seen g c =
+    let was : (mutex_guard_value c.lock_when-state.result).shard ≡ c.args.which.now = search rules in
+    looked_as c.deref_mut.result.now c.deref_mut.ensures.value was c.look.ensures.seen c.look.ensures.shard c.look.ensures.pass
 
-pub try_retire-requires-clause-fit : goal.try_retire-requires-clause-fit
-try_retire-requires-clause-fit g c = subst (FitTargets c.args.which.now) (sym c.loop.invariant.same) c.requires.fit
+frozen : (g : _) (c : goal.After-deref_mut-2 g) → mode g.W.World.opening (mutex_guard_value c.lock_when-state.result).seen (mutex_guard_value c.lock_when-state.result).shard.slot ≡ Frozen
+frozen g c = search rules
 
-pub returns-in-Ok-clause-retired : goal.returns-in-Ok-clause-retired
-returns-in-Ok-clause-retired g c =
-    subst (λ (ts : List ShardRecord). HasStepped g.W.World.opening c.args.which.now (Retire ts) c.args.pass.now c.try_retire.new.pass) c.loop.invariant.same
-    (stepped_after _ _ _ _ _ _ c.loop.invariant.onward c.in-Ok.ensures.retired)
+stored : (g : _) (c : goal.After-deref_mut-2 g) → c.args.stored ≡ length (stored_on (mutex_guard_value c.lock_when-state.result).shard.slot (mutex_guard_value c.lock_when-state.result).seen)
+stored g c = search rules
 
-pub returns-in-Ok-clause-stored : goal.returns-in-Ok-clause-stored
-returns-in-Ok-clause-stored g c = c.in-Ok.ensures.stored
+-- the state that the guard lends then is the shard's
+same : (g : _) (c : goal.After-deref_mut-2 g) → c.deref_mut-2.result.now.shard ≡ c.args.which.now
+same g c = ap (λ (v : ShardView). v.shard) c.deref_mut-2.ensures.value ∙ (seen g c).is
 
-pub returns-in-Ok-clause-alone : goal.returns-in-Ok-clause-alone
-returns-in-Ok-clause-alone g c =
-    looked_on c.args.which.now.slot c.args.pass.now c.loop.pass c.try_retire.new.pass c.loop.invariant.alone c.try_retire.ensures.alone
+on : (g : _) (c : goal.After-deref_mut-2 g) → IsOnward g.W.World.opening c.args.pass.now c.look.new.pass
+on g c = looked_first g.W.World.opening c.args.pass.now c.look.new.pass _ _ _ c.requires.legal c.look.ensures.seen c.look.ensures.pass
 
-pub loop-init : goal.loop-init
-loop-init g c = record {
-  next = tt;
-  finite = tt;
-  onward = still g.W.World.opening c.args.pass.now c.requires.legal;
-  same = refl;
-  alone = not_looked c.args.which.now.slot c.args.pass.now c.args.pass.now refl;
-}
+pub retire-requires : goal.retire-requires
+retire-requires g c =
+    let b = (goal.at.retire-requires g c).After-deref_mut-2 in
+    let fit = subst (λ (s : ShardRecord). FitTargets s c.args.targets) (sym (same g b)) c.requires.fit in
+    record {
+      may = record {
+        frozen =
+            subst (λ (v : ShardView). mode g.W.World.opening v.seen v.shard.slot ≡ Frozen) (sym c.deref_mut-2.ensures.value) (mode_here (seen g b) (frozen g b));
+        of_source = fit.of_source;
+        apart = fit.apart;
+        whole = fit.whole;
+      };
+    }
 
-pub loop-preserved : goal.loop-preserved
-loop-preserved g c = record {
-  next = tt;
-  finite = tt;
-  onward = onward_trans g.W.World.opening c.args.pass.now c.loop.pass c.try_retire.new.pass c.loop.invariant.onward c.in-Err.ensures.onward;
-  same = c.in-Err.ensures.back ∙ c.loop.invariant.same;
-  alone = looked_on c.args.which.now.slot c.args.pass.now c.loop.pass c.try_retire.new.pass c.loop.invariant.alone c.try_retire.ensures.alone;
-}
+pub returns-clause-retired : goal.returns-clause-retired
+returns-clause-retired g c =
+    let b = (goal.at.returns-clause-retired g c).After-deref_mut-2 in
+    changed g.W.World.opening c.args.pass.now c.look.new.pass c.retire.new.pass c.deref_mut-2.result.now c.args.which.now (Retire c.args.targets) (on g b) c.retire.ensures.changed (same g b)
+
+pub returns-clause-stored : goal.returns-clause-stored
+returns-clause-stored g c =
+    let b = (goal.at.returns-clause-stored g c).After-deref_mut-2 in
+    let st = c.deref_mut-2.result.now in
+    let which = c.args.which.now in
+    stored g b ∙ ap length (sym (stored_stays (seen g b))) ∙ ap (λ (r : Run). length (stored_on which.slot r)) (seen g b).seen
+    ∙ ap (λ (s : ShardRecord). length (stored_on s.slot c.look.new.self.seen)) (sym (seen g b).is)
+    ∙ ap (λ (v : ShardView). length (stored_on v.shard.slot v.seen)) (sym c.deref_mut-2.ensures.value)
+    ∙ ap length (sym (stored_unchanged g.W.World.opening st (Retire c.args.targets) c.look.new.pass c.retire.new.pass c.retire.ensures.changed refl))
+    ∙ ap (λ (s : ShardRecord). length (stored_on s.slot c.retire.new.pass.seen)) (same g b)
+
+pub returns-clause-alone : goal.returns-clause-alone
+returns-clause-alone g c =
+    let b = (goal.at.returns-clause-alone g c).After-deref_mut-2 in
+    let slot = c.args.which.now.slot in
+    let p = c.args.pass.now in
+    let q = c.look.new.pass in
+    looked_on slot p q c.retire.new.pass (look_alone slot slot p q _ _ refl (seen g b).pass)
+    (change_alone g.W.World.opening slot c.deref_mut-2.result.now (Retire c.args.targets) q c.retire.new.pass (ap (λ (s : ShardRecord). s.slot) (same g b)) c.retire.ensures.changed)

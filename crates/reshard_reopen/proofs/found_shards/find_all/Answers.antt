@@ -3,7 +3,7 @@ use Rattle.shard_contents.proofs.Progress.{take_whole}
 use Rattle.shard.specs.Seats.{seat_of}
 use Rattle.reshard_reopen.specs.Rebuilt.{FoundView}
 use Rattle.reshard_cutover.proofs.Onward.{onward_trans}
-use Rattle.reshard_create.proofs.Begins.{map_twice}
+use Rattle.reshard_split.proofs.Lists.{map_twice}
 use Rattle.reshard_reopen.proofs.Founds.{found_next, seen_next}
 use Rattle.reshard_reopen.proofs.found_shards.find_all.Goals as goal
 

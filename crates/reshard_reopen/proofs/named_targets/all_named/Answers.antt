@@ -1,6 +1,6 @@
 use Rattle.std.proofs.Common.{map}
 use Rattle.reshard_cutover.proofs.Retiring.{item_of, map_at}
-use Rattle.reshard_create.proofs.Named.{whole}
+use Rattle.reshard_split.proofs.Lists.{whole}
 use Rattle.reshard_reopen.specs.Rebuilt.{FoundView, NamedThose}
 use Rattle.reshard_reopen.proofs.Names.{all_next}
 use Rattle.reshard_reopen.proofs.Taken.{all_remap}

@@ -2,7 +2,7 @@ use Rattle.std.proofs.Common.{map}
 use Rattle.std.specs.Prelude.{Contains, IsTrue}
 use Rattle.reshard_cutover.specs.Steps.{has_source}
 use Rattle.reshard_cutover.proofs.Retiring.{item_of, map_at}
-use Rattle.reshard_create.proofs.Named.{whole}
+use Rattle.reshard_split.proofs.Lists.{whole}
 use Rattle.reshard_reopen.proofs.Names.{all_next}
 use Rattle.reshard_reopen.proofs.Taken.{all_remap}
 use Rattle.reshard_reopen.proofs.named_targets.are_named.Goals as goal

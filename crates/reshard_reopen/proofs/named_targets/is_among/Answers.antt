@@ -1,6 +1,6 @@
 use Rattle.std.proofs.Common.{◌≡◌}
 use Rattle.shard_run.specs.declared.ShardRecord.{ShardRecord}
-use Rattle.reshard_create.proofs.Named.{not_there, whole}
+use Rattle.reshard_split.proofs.Lists.{not_there, whole}
 use Rattle.reshard_reopen.proofs.Names.{all_next}
 use Rattle.reshard_reopen.proofs.named_targets.is_among.Goals as goal
 

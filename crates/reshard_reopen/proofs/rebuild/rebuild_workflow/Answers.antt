@@ -5,7 +5,7 @@ use Rattle.follow.proofs.Moves.{at_not_some, at_some}
 use Rattle.shard_run.specs.declared.ShardRecord.{ShardRecord}
 use Rattle.reshard_reopen.specs.Rebuilt.{FoundView, NamedThose}
 use Rattle.reshard_reopen.specs.inner.Snapshots.{IsRebuiltTarget}
-use Rattle.reshard_create.proofs.Begins.{map_twice}
+use Rattle.reshard_split.proofs.Lists.{map_twice}
 use Rattle.reshard_reopen.proofs.Courses.{progress_of_modes}
 use Rattle.reshard_reopen.proofs.Taken.{takes_seen, takes_again}
 use Rattle.reshard_reopen.proofs.Refits.{refitted_again}

@@ -1,6 +1,6 @@
 use Rattle.std.proofs.Common.{map, sym, ap, ◌∙◌}
 use Rattle.shard_run.specs.declared.ShardRecord.{ShardRecord}
-use Rattle.reshard_create.proofs.Those.{same_those}
+use Rattle.reshard_split.proofs.Those.{same_those}
 use Rattle.reshard_reopen.proofs.rebuild.target_of.Goals as goal
 
 pub returns-then-not-same_slots-clause-which : goal.returns-then-not-same_slots-clause-which

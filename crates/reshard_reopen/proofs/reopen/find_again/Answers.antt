@@ -11,8 +11,8 @@ use Rattle.vt_value.specs.declared.refusal.Refusal.TheVariants.{OutOfMemory}
 use Rattle.reshard_reopen.specs.Rebuilt.{FoundView, AreFound, unlike}
 use Rattle.reshard_cutover.specs.Overlapping.{AreThose}
 use Rattle.reshard_reopen.specs.inner.Snapshots.{IsRebuiltTarget}
-use Rattle.reshard_create.proofs.Begins.{map_twice}
-use Rattle.reshard_create.proofs.Unfit.{residual}
+use Rattle.reshard_split.proofs.Lists.{map_twice}
+use Rattle.reshard_cutover.proofs.Residual.{residual}
 use Rattle.reshard_reopen.proofs.Founds.{all_named, reopen_memory, over}
 use Rattle.reshard_reopen.proofs.Taken.{all_same}
 use Rattle.reshard_reopen.proofs.reopen.find_again.Goals as goal

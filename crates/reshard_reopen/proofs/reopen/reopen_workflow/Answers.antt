@@ -1,6 +1,6 @@
 use Rattle.std.proofs.Common.{◌≤◌, length, map, sym, ap, subst, ◌∙◌, refl}
 use Rattle.std.proofs.lemmas.List.{length-map}
-use Rattle.reshard_create.proofs.Unfit.{residual}
+use Rattle.reshard_cutover.proofs.Residual.{residual}
 use Rattle.vt_value.specs.declared.refusal.Refusal.TheVariants.{OutOfMemory}
 use Rattle.reshard_reopen.proofs.Founds.{reopen_memory}
 use Rattle.reshard_reopen.proofs.Refits.{retired_within}

@@ -1,0 +1,5 @@
+pub mod Lists
+pub mod Counting
+pub mod Those
+pub mod Splits
+pub mod Growing
