@@ -2,7 +2,7 @@
 
 use crate::detail::Detail;
 use crate::login::LoginBytes;
-use crate::packets::{Packets, Part};
+use crate::packets::{PacketPart, Packets};
 use crate::texts::Texts;
 use mysql_handshake::Response;
 use std::alloc::Global;
@@ -36,7 +36,7 @@ impl Incoming {
         }
     }
 
-    fn take_part(&mut self, part: Part<'_>) {
+    fn take_part(&mut self, part: PacketPart<'_>) {
         if part.is_first {
             self.is_statement = part.number == 0 && part.first() == COM_QUERY;
             self.statements = self.statements.wrapping_add(u64::from(self.is_statement));

@@ -1,7 +1,7 @@
 //! What is written to a client.
 
 use crate::detail::Detail;
-use crate::packets::{Packets, Part};
+use crate::packets::{PacketPart, Packets};
 use crate::refused::{Refused, error_code, told_refusal};
 use crate::replied::Replied;
 
@@ -83,7 +83,7 @@ impl<'r> Outgoing<'r> {
     }
 
     // What comes after the first packet of a reply.
-    fn after_first(&self, part: Part<'_>) -> Next {
+    fn after_first(&self, part: PacketPart<'_>) -> Next {
         match part.first() {
             OK => {
                 let changed = number_at(part.bytes.get(1..).unwrap_or(&[]));
@@ -96,7 +96,7 @@ impl<'r> Outgoing<'r> {
     }
 
     // What comes after a row, or what ends the rows.
-    fn after_row(&self, part: Part<'_>) -> Next {
+    fn after_row(&self, part: PacketPart<'_>) -> Next {
         match part.first() {
             ERROR => Next::Reply,
             END if part.len < SHORTEST_ROW => Next::Reply,
@@ -107,7 +107,7 @@ impl<'r> Outgoing<'r> {
         }
     }
 
-    fn after(&self, part: Part<'_>) -> Next {
+    fn after(&self, part: PacketPart<'_>) -> Next {
         match self.next {
             Next::Reply => self.after_first(part),
             Next::Definition(left) if left > 1 => Next::Definition(left.saturating_sub(1)),

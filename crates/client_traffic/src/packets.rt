@@ -5,7 +5,7 @@ const HEAD: u8 = 4;
 
 /// A part of a packet's payload.
 #[derive(Clone, Copy)]
-pub(crate) struct Part<'b> {
+pub(crate) struct PacketPart<'b> {
     /// The packet's number, which is 0 for a command.
     pub number: u8,
     /// How many bytes the whole payload has.
@@ -15,7 +15,7 @@ pub(crate) struct Part<'b> {
     pub bytes: &'b [u8],
 }
 
-impl<'b> Part<'b> {
+impl<'b> PacketPart<'b> {
     /// The first byte of the part; 0 if it has none.
     pub fn first(&self) -> u8 {
         self.bytes.first().copied().unwrap_or(0)
@@ -57,14 +57,14 @@ impl Packets {
     }
 
     // The part of the payload that these bytes are, which are no more than are still to come.
-    fn part<'b>(&mut self, bytes: &'b [u8]) -> Part<'b> {
+    fn part<'b>(&mut self, bytes: &'b [u8]) -> PacketPart<'b> {
         let is_first = self.left == self.len;
         self.left = self.left.saturating_sub(bytes.len());
         let is_last = self.left == 0;
         if is_last {
             self.head = 0;
         }
-        Part {
+        PacketPart {
             number: self.number,
             len: self.len,
             is_first,
@@ -74,7 +74,7 @@ impl Packets {
     }
 
     /// Takes the payload of a packet that these bytes are as a whole, if none has begun; else it takes nothing.
-    pub fn take_whole<'b>(&mut self, bytes: &'b [u8]) -> Option<Part<'b>> {
+    pub fn take_whole<'b>(&mut self, bytes: &'b [u8]) -> Option<PacketPart<'b>> {
         if self.head > 0 {
             return None;
         }
@@ -85,7 +85,7 @@ impl Packets {
         if payload.len() != len {
             return None;
         }
-        Some(Part {
+        Some(PacketPart {
             number: *number,
             len,
             is_first: true,
@@ -95,7 +95,7 @@ impl Packets {
     }
 
     /// Takes a byte of a head, or what is there of a payload, and tells it and the bytes that are left. A payload without bytes is a part.
-    pub fn take<'b>(&mut self, bytes: &'b [u8]) -> (Option<Part<'b>>, &'b [u8]) {
+    pub fn take<'b>(&mut self, bytes: &'b [u8]) -> (Option<PacketPart<'b>>, &'b [u8]) {
         if self.head < HEAD {
             let Some((byte, rest)) = bytes.split_first() else {
                 return (None, bytes);

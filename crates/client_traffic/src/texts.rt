@@ -1,6 +1,6 @@
 //! The texts of statements.
 
-use crate::packets::Part;
+use crate::packets::PacketPart;
 use std::alloc::Global;
 use std::mem::replace;
 
@@ -40,7 +40,7 @@ impl Texts {
     }
 
     /// Puts a part of a statement's payload, whose first byte is the command.
-    pub fn put(&mut self, part: Part<'_>) {
+    pub fn put(&mut self, part: PacketPart<'_>) {
         let bytes = part.bytes;
         self.put_text(if part.is_first {
             bytes.get(1..).unwrap_or(&[])

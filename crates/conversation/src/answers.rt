@@ -24,15 +24,15 @@ use crate::access::Handshake;
 use crate::connection_state::{ConnectionState, Phase, Settings};
 use crate::devices::{DeviceFailed, Sink};
 use crate::end::End;
-use crate::reply::{REPLY_ROOM, put_command, put_refusal, put_reply};
+use crate::reply::{REPLY_ROOM, put_refusal};
+use crate::responder::{ReplyState, Responder};
 use bytes::BytesMut;
 use journal::Naming;
 use mysql_handshake::put_greeting;
 use mysql_packet::{Fed, HeaderFault, Payload};
 use resultset::Chunks;
-use route_engine::{Engine, Gate, Tx};
+use route_engine::Gate;
 use shard::{ShardPass, World};
-use std::alloc::Global;
 use std::sync::Wait;
 use std::thread::Threads;
 use vt_value::Items;
@@ -73,125 +73,6 @@ fn write_reply<S: Sink>(
         None => sink.write(reply),
         Some(chunks) => write_long(chunks.as_slice(), reply, sink),
     }
-}
-
-/// Writes what is written for one payload, once it is known whole, and returns the session's state after it.
-/// The clauses tell what became of the pass, the transaction and the reply, which are lent one by one.
-fn answer<W: World + Send + Sync, J: Naming + Send + Sync, G: Gate, S: Sink>(
-    rt: &(impl Threads + Wait + Sync),
-    alloc: Global,
-    engine: &Engine<W, J, G>,
-    pass: &mut ShardPass<W, J>,
-    tx: &mut Tx<W, J>,
-    handshake: &Handshake,
-    phase: Phase,
-    payload: &Payload,
-    reply: &mut BytesMut,
-    sink: &mut S,
-) -> Result<ConnectionState, DeviceFailed>
-    requires room { REPLY_ROOM ≤ length reply.old.items + reply.old.spare }
-    requires session { IsSome pass.old.session }
-    requires tx { IsOf W.opening tx.old pass.old }
-    ensures answers { IfOk result (λ connection_state. (out : List ℕ) × Appends (S.taken sink.old) (S.taken sink.new) out
-        × LeadsKept W.opening pass.old tx.old pass.new tx.new
-        (λ s now. AnswersPayload (context_of W.opening handshake.now) (Means W.opening W.limits) phase s payload.now out connection_state now)) }
-    ensures cut { OnErr result ((out : List ℕ) × (connection_state : ConnectionState) × AppendsFront (S.taken sink.old) (S.taken sink.new) out
-        × LeadsKept W.opening pass.old tx.old pass.new tx.new
-        (λ s now. AnswersPayload (context_of W.opening handshake.now) (Means W.opening W.limits) phase s payload.now out connection_state now)) }
-    ensures count { S.failures sink.new ≡ failures_after result (S.failures sink.old) }
-    ensures room { REPLY_ROOM ≤ length reply.new.items + reply.new.spare }
-    ensures tx { IsOf W.opening tx.new pass.new }
-    ensures session { pass.new.session ≡ pass.old.session }
-{
-    reply.clear();
-    let (connection_state, rows) = put_reply(
-        rt, alloc, engine, pass, tx, handshake, phase, payload, reply,
-    );
-    match write_reply(rows, reply.as_slice(), sink) {
-        Ok(()) => Ok(connection_state),
-        Err(failed) => Err(failed),
-    }
-}
-
-/// Writes what is written for a piece that is the one packet of a command, whose bytes are given, and returns the session's state after it.
-/// It is what `answer_fed` does of such a piece, without a copy of the bytes.
-/// The clauses tell what became of the pass, the transaction and the reply, which are lent one by one.
-pub fn answer_command<W: World + Send + Sync, J: Naming + Send + Sync, G: Gate, S: Sink>(
-    rt: &(impl Threads + Wait + Sync),
-    alloc: Global,
-    engine: &Engine<W, J, G>,
-    pass: &mut ShardPass<W, J>,
-    tx: &mut Tx<W, J>,
-    handshake: &Handshake,
-    settings: Settings,
-    command: &[u8],
-    reply: &mut BytesMut,
-    sink: &mut S,
-) -> Result<ConnectionState, DeviceFailed>
-    requires room { REPLY_ROOM ≤ length reply.old.items + reply.old.spare }
-    requires session { IsSome pass.old.session }
-    requires tx { IsOf W.opening tx.old pass.old }
-    ensures answers { IfOk result (λ connection_state. (out : List ℕ) × Appends (S.taken sink.old) (S.taken sink.new) out
-        × LeadsKept W.opening pass.old tx.old pass.new tx.new
-        (λ s now. AnswersFed (context_of W.opening handshake.now) (Means W.opening W.limits) (ConnectionState.At (Phase.Commands settings)) s (one_command command.now) out connection_state now)) }
-    ensures cut { OnErr result ((written : List ℕ) × Appends (S.taken sink.old) (S.taken sink.new) written
-        × LeadsKept W.opening pass.old tx.old pass.new tx.new
-        (λ s now. IsCutOff (context_of W.opening handshake.now) (Means W.opening W.limits) (ConnectionState.At (Phase.Commands settings)) s (one_command command.now) written now)) }
-    ensures count { S.failures sink.new ≡ failures_after result (S.failures sink.old) }
-    ensures room { REPLY_ROOM ≤ length reply.new.items + reply.new.spare }
-    ensures tx { IsOf W.opening tx.new pass.new }
-    ensures session { pass.new.session ≡ pass.old.session }
-{
-    reply.clear();
-    let (then, rows) = put_command(
-        rt, alloc, engine, pass, tx, handshake, settings, 0, command, reply,
-    );
-    match write_reply(rows, reply.as_slice(), sink) {
-        Ok(()) => Ok(then),
-        Err(failed) => Err(failed),
-    }
-}
-
-/// Writes what is written for the payloads from the phase on, until the session ends.
-/// The clauses tell what became of the pass, the transaction and the reply, which are lent one by one.
-fn answer_all<W: World + Send + Sync, J: Naming + Send + Sync, G: Gate, S: Sink>(
-    rt: &(impl Threads + Wait + Sync),
-    alloc: Global,
-    engine: &Engine<W, J, G>,
-    pass: &mut ShardPass<W, J>,
-    tx: &mut Tx<W, J>,
-    handshake: &Handshake,
-    begin: Phase,
-    payloads: &[Payload],
-    reply: &mut BytesMut,
-    sink: &mut S,
-) -> Result<ConnectionState, DeviceFailed>
-    requires room { REPLY_ROOM ≤ length reply.old.items + reply.old.spare }
-    requires session { IsSome pass.old.session }
-    requires tx { IsOf W.opening tx.old pass.old }
-    ensures replies { IfOk result (λ connection_state. (out : List ℕ) × Appends (S.taken sink.old) (S.taken sink.new) out
-        × LeadsKept W.opening pass.old tx.old pass.new tx.new
-        (λ s now. Replies (context_of W.opening handshake.now) (Means W.opening W.limits) begin s payloads.now out connection_state now)) }
-    ensures cut { OnErr result ((done : List Payload) × (out : List ℕ) × (connection_state : ConnectionState) × IsPrefix done payloads.now
-        × AppendsFront (S.taken sink.old) (S.taken sink.new) out
-        × LeadsKept W.opening pass.old tx.old pass.new tx.new
-        (λ s now. Replies (context_of W.opening handshake.now) (Means W.opening W.limits) begin s done out connection_state now)) }
-    ensures count { S.failures sink.new ≡ failures_after result (S.failures sink.old) }
-    ensures room { REPLY_ROOM ≤ length reply.new.items + reply.new.spare }
-    ensures tx { IsOf W.opening tx.new pass.new }
-    ensures session { pass.new.session ≡ pass.old.session }
-{
-    let mut phase = begin;
-    for payload in payloads {
-        match answer(
-            rt, alloc, engine, pass, tx, handshake, phase, payload, reply, sink,
-        )? {
-            ConnectionState::New => unreachable!(),
-            ConnectionState::At(next) => phase = next,
-            ConnectionState::Ended(end) => return Ok(ConnectionState::Ended(end)),
-        }
-    }
-    Ok(ConnectionState::At(phase))
 }
 
 fn put_handshake(handshake: &Handshake, reply: &mut BytesMut)
@@ -248,49 +129,148 @@ fn greet<S: Sink>(
     }
 }
 
-/// Writes what is written for the payloads that a piece gave, and the refusal of its fault after them; in a session that is new,
-/// after the greeting.
-/// The clauses tell what became of the pass, the transaction and the reply, which are lent one by one.
-pub fn answer_fed<W: World + Send + Sync, J: Naming + Send + Sync, G: Gate, S: Sink>(
-    rt: &(impl Threads + Wait + Sync),
-    alloc: Global,
-    engine: &Engine<W, J, G>,
-    pass: &mut ShardPass<W, J>,
-    tx: &mut Tx<W, J>,
-    handshake: &Handshake,
-    begin: ConnectionState,
-    fed: &Fed,
-    reply: &mut BytesMut,
-    sink: &mut S,
-) -> Result<ConnectionState, DeviceFailed>
-    requires room { REPLY_ROOM ≤ length reply.old.items + reply.old.spare }
-    requires session { IsSome pass.old.session }
-    requires tx { IsOf W.opening tx.old pass.old }
-    requires open_session { end_of begin ≡ None }
-    ensures answers { IfOk result (λ connection_state. (out : List ℕ) × Appends (S.taken sink.old) (S.taken sink.new) out
-        × LeadsKept W.opening pass.old tx.old pass.new tx.new
-        (λ s now. AnswersFed (context_of W.opening handshake.now) (Means W.opening W.limits) begin s fed.now out connection_state now)) }
-    ensures cut { OnErr result ((written : List ℕ) × Appends (S.taken sink.old) (S.taken sink.new) written
-        × LeadsKept W.opening pass.old tx.old pass.new tx.new
-        (λ s now. IsCutOff (context_of W.opening handshake.now) (Means W.opening W.limits) begin s fed.now written now)) }
-    ensures count { S.failures sink.new ≡ failures_after result (S.failures sink.old) }
-    ensures room { REPLY_ROOM ≤ length reply.new.items + reply.new.spare }
-    ensures tx { IsOf W.opening tx.new pass.new }
-    ensures session { pass.new.session ≡ pass.old.session }
-{
-    let phase = greet(handshake, begin, reply, sink)?;
-    let payloads = fed.payloads.as_slice();
-    match answer_all(
-        rt, alloc, engine, pass, tx, handshake, phase, payloads, reply, sink,
-    )? {
-        ConnectionState::New => unreachable!(),
-        ConnectionState::Ended(end) => Ok(ConnectionState::Ended(end)),
-        ConnectionState::At(next) => match fed.fault {
-            None => Ok(ConnectionState::At(next)),
-            Some(fault) => {
-                answer_fault(fault, reply, sink)?;
-                Ok(ConnectionState::Ended(End::Broken))
+impl<W: World + Send + Sync, J: Naming + Send + Sync, G: Gate, R: Threads + Wait + Sync> Responder<
+    '_,
+    W,
+    J,
+    G,
+    R,
+> {
+    /// Writes what is written for one payload, once it is known whole, and returns the session's state after it.
+    fn answer<S: Sink>(
+        &self,
+        pass: &mut ShardPass<W, J>,
+        state: &mut ReplyState<W, J>,
+        phase: Phase,
+        payload: &Payload,
+        sink: &mut S,
+    ) -> Result<ConnectionState, DeviceFailed>
+        requires room { REPLY_ROOM ≤ length state.old.reply.items + state.old.reply.spare }
+        requires session { IsSome pass.old.session }
+        requires tx { IsOf W.opening state.old.tx pass.old }
+        ensures answers { IfOk result (λ connection_state. (out : List ℕ) × Appends (S.taken sink.old) (S.taken sink.new) out
+            × LeadsKept W.opening pass.old state.old.tx pass.new state.new.tx
+            (λ s now. AnswersPayload (context_of W.opening self.now.handshake.now) (Means W.opening W.limits) phase s payload.now out connection_state now)) }
+        ensures cut { OnErr result ((out : List ℕ) × (connection_state : ConnectionState) × AppendsFront (S.taken sink.old) (S.taken sink.new) out
+            × LeadsKept W.opening pass.old state.old.tx pass.new state.new.tx
+            (λ s now. AnswersPayload (context_of W.opening self.now.handshake.now) (Means W.opening W.limits) phase s payload.now out connection_state now)) }
+        ensures count { S.failures sink.new ≡ failures_after result (S.failures sink.old) }
+        ensures room { REPLY_ROOM ≤ length state.new.reply.items + state.new.reply.spare }
+        ensures tx { IsOf W.opening state.new.tx pass.new }
+        ensures session { pass.new.session ≡ pass.old.session }
+    {
+        state.reply.clear();
+        let (connection_state, rows) = self.put_reply(pass, state, phase, payload);
+        match write_reply(rows, state.reply.as_slice(), sink) {
+            Ok(()) => Ok(connection_state),
+            Err(failed) => Err(failed),
+        }
+    }
+
+    /// Writes what is written for a piece that is the one packet of a command, whose bytes are given, and returns the session's state after it.
+    /// It is what `answer_fed` does of such a piece, without a copy of the bytes.
+    pub fn answer_command<S: Sink>(
+        &self,
+        pass: &mut ShardPass<W, J>,
+        state: &mut ReplyState<W, J>,
+        settings: Settings,
+        command: &[u8],
+        sink: &mut S,
+    ) -> Result<ConnectionState, DeviceFailed>
+        requires room { REPLY_ROOM ≤ length state.old.reply.items + state.old.reply.spare }
+        requires session { IsSome pass.old.session }
+        requires tx { IsOf W.opening state.old.tx pass.old }
+        ensures answers { IfOk result (λ connection_state. (out : List ℕ) × Appends (S.taken sink.old) (S.taken sink.new) out
+            × LeadsKept W.opening pass.old state.old.tx pass.new state.new.tx
+            (λ s now. AnswersFed (context_of W.opening self.now.handshake.now) (Means W.opening W.limits) (ConnectionState.At (Phase.Commands settings)) s (one_command command.now) out connection_state now)) }
+        ensures cut { OnErr result ((written : List ℕ) × Appends (S.taken sink.old) (S.taken sink.new) written
+            × LeadsKept W.opening pass.old state.old.tx pass.new state.new.tx
+            (λ s now. IsCutOff (context_of W.opening self.now.handshake.now) (Means W.opening W.limits) (ConnectionState.At (Phase.Commands settings)) s (one_command command.now) written now)) }
+        ensures count { S.failures sink.new ≡ failures_after result (S.failures sink.old) }
+        ensures room { REPLY_ROOM ≤ length state.new.reply.items + state.new.reply.spare }
+        ensures tx { IsOf W.opening state.new.tx pass.new }
+        ensures session { pass.new.session ≡ pass.old.session }
+    {
+        state.reply.clear();
+        let (then, rows) = self.put_command(pass, state, settings, 0, command);
+        match write_reply(rows, state.reply.as_slice(), sink) {
+            Ok(()) => Ok(then),
+            Err(failed) => Err(failed),
+        }
+    }
+
+    /// Writes what is written for the payloads from the phase on, until the session ends.
+    fn answer_all<S: Sink>(
+        &self,
+        pass: &mut ShardPass<W, J>,
+        state: &mut ReplyState<W, J>,
+        begin: Phase,
+        payloads: &[Payload],
+        sink: &mut S,
+    ) -> Result<ConnectionState, DeviceFailed>
+        requires room { REPLY_ROOM ≤ length state.old.reply.items + state.old.reply.spare }
+        requires session { IsSome pass.old.session }
+        requires tx { IsOf W.opening state.old.tx pass.old }
+        ensures replies { IfOk result (λ connection_state. (out : List ℕ) × Appends (S.taken sink.old) (S.taken sink.new) out
+            × LeadsKept W.opening pass.old state.old.tx pass.new state.new.tx
+            (λ s now. Replies (context_of W.opening self.now.handshake.now) (Means W.opening W.limits) begin s payloads.now out connection_state now)) }
+        ensures cut { OnErr result ((done : List Payload) × (out : List ℕ) × (connection_state : ConnectionState) × IsPrefix done payloads.now
+            × AppendsFront (S.taken sink.old) (S.taken sink.new) out
+            × LeadsKept W.opening pass.old state.old.tx pass.new state.new.tx
+            (λ s now. Replies (context_of W.opening self.now.handshake.now) (Means W.opening W.limits) begin s done out connection_state now)) }
+        ensures count { S.failures sink.new ≡ failures_after result (S.failures sink.old) }
+        ensures room { REPLY_ROOM ≤ length state.new.reply.items + state.new.reply.spare }
+        ensures tx { IsOf W.opening state.new.tx pass.new }
+        ensures session { pass.new.session ≡ pass.old.session }
+    {
+        let mut phase = begin;
+        for payload in payloads {
+            match self.answer(pass, state, phase, payload, sink)? {
+                ConnectionState::New => unreachable!(),
+                ConnectionState::At(next) => phase = next,
+                ConnectionState::Ended(end) => return Ok(ConnectionState::Ended(end)),
             }
-        },
+        }
+        Ok(ConnectionState::At(phase))
+    }
+
+    /// Writes what is written for the payloads that a piece gave, and the refusal of its fault after them; in a session that is new,
+    /// after the greeting.
+    pub fn answer_fed<S: Sink>(
+        &self,
+        pass: &mut ShardPass<W, J>,
+        state: &mut ReplyState<W, J>,
+        begin: ConnectionState,
+        fed: &Fed,
+        sink: &mut S,
+    ) -> Result<ConnectionState, DeviceFailed>
+        requires room { REPLY_ROOM ≤ length state.old.reply.items + state.old.reply.spare }
+        requires session { IsSome pass.old.session }
+        requires tx { IsOf W.opening state.old.tx pass.old }
+        requires open_session { end_of begin ≡ None }
+        ensures answers { IfOk result (λ connection_state. (out : List ℕ) × Appends (S.taken sink.old) (S.taken sink.new) out
+            × LeadsKept W.opening pass.old state.old.tx pass.new state.new.tx
+            (λ s now. AnswersFed (context_of W.opening self.now.handshake.now) (Means W.opening W.limits) begin s fed.now out connection_state now)) }
+        ensures cut { OnErr result ((written : List ℕ) × Appends (S.taken sink.old) (S.taken sink.new) written
+            × LeadsKept W.opening pass.old state.old.tx pass.new state.new.tx
+            (λ s now. IsCutOff (context_of W.opening self.now.handshake.now) (Means W.opening W.limits) begin s fed.now written now)) }
+        ensures count { S.failures sink.new ≡ failures_after result (S.failures sink.old) }
+        ensures room { REPLY_ROOM ≤ length state.new.reply.items + state.new.reply.spare }
+        ensures tx { IsOf W.opening state.new.tx pass.new }
+        ensures session { pass.new.session ≡ pass.old.session }
+    {
+        let phase = greet(self.handshake, begin, &mut state.reply, sink)?;
+        let payloads = fed.payloads.as_slice();
+        match self.answer_all(pass, state, phase, payloads, sink)? {
+            ConnectionState::New => unreachable!(),
+            ConnectionState::Ended(end) => Ok(ConnectionState::Ended(end)),
+            ConnectionState::At(next) => match fed.fault {
+                None => Ok(ConnectionState::At(next)),
+                Some(fault) => {
+                    answer_fault(fault, &mut state.reply, sink)?;
+                    Ok(ConnectionState::Ended(End::Broken))
+                }
+            },
+        }
     }
 }

@@ -11,10 +11,10 @@ mod end;
 mod local_answers;
 mod login;
 mod reply;
+mod responder;
 mod texts;
 
 pub use access::{Access, Handshake};
-pub use answers::{answer_command, answer_fed};
 pub use columns::columns_of;
 pub use connection_state::{
     ConnectionState, PendingLogin, Phase, Settings, end_of, first_number, is_in_commands, is_new,
@@ -22,4 +22,5 @@ pub use connection_state::{
 pub use devices::{DeviceFailed, Reader, Sink, Source, Writer};
 pub use end::{End, SessionFault};
 pub use login::{keyspace_named, put_answer, put_response};
-pub use reply::{REPLY_ROOM, put_pong, put_refusal, put_reply};
+pub use reply::{REPLY_ROOM, put_pong, put_refusal};
+pub use responder::{ReplyState, Responder};

@@ -16,20 +16,19 @@ ghost use Rattle.conversation.specs.Talk.{AnswersPayload, set_end_of};
 ghost use Rattle.conversation.specs.inner.Replies.{reply_bytes, TellsOutcome};
 ghost use Rattle.conversation.specs.inner.Sessions.{command_payload};
 
-use crate::access::Handshake;
 use crate::client_reply::{ClientReply, ClientReplyKind, ShownSet};
 use crate::connection_state::{ConnectionState, Phase, Settings, first_number};
 use crate::end::End;
 use crate::local_answers::not_run;
 use crate::login::{keyspace_named, put_answer, put_response};
-use crate::texts::{asked, run_text};
+use crate::responder::{ReplyState, Responder};
 use bytes::BytesMut;
 use journal::Naming;
 use mysql_handshake::{DEPRECATE_EOF, is_set};
 use mysql_message::{Command, put_eof, put_err, put_ok, put_set_end, put_statistics, read_command};
 use mysql_packet::Payload;
 use resultset::{Chunks, SetEnd, encode_rows_after};
-use route_engine::{Engine, Gate, Tx};
+use route_engine::{Gate, Tx};
 use shard::{ShardPass, World};
 use std::alloc::{AllocError, Global};
 use std::sync::Wait;
@@ -248,205 +247,196 @@ fn put_option(several: bool, end: SetEnd, number: u8, status: u16, reply: &mut B
     }
 }
 
-/// The reply to a text that isn't run, by what it asks of the server, and the session's state after it.
-/// The clauses tell what became of the pass, the transaction and the reply, which are lent one by one.
-#[inline(never)]
-fn put_asked<W: World + Send + Sync, J: Naming + Send + Sync, G: Gate>(
-    rt: &(impl Threads + Wait + Sync),
-    alloc: Global,
-    engine: &Engine<W, J, G>,
-    pass: &mut ShardPass<W, J>,
-    tx: &mut Tx<W, J>,
-    handshake: &Handshake,
-    settings: Settings,
-    text: &[u8],
-    why: Refusal,
-    number: u8,
-    reply: &mut BytesMut,
-) -> (ConnectionState, Option<Chunks>)
-    requires empty { reply.old.items ≡ [] }
-    requires room { REPLY_ROOM ≤ reply.old.spare }
-    requires session { IsSome pass.old.session }
-    requires tx { IsOf W.opening tx.old pass.old }
-    ensures answers { (outcome : Outcome) × (then : Settings) × (result.0 ≡ ConnectionState.At (Phase.Commands then))
-        × LeadsKept W.opening pass.old tx.old pass.new tx.new
-        (λ s now. AnswersAsked (context_of W.opening handshake.now) (Means W.opening W.limits) settings s text.now (Outcome.Refused why) outcome then now)
-        × TellsOutcome (set_end_of settings.capabilities) outcome number (status_flags then.autocommit (is_some tx.new)) (reply_bytes result.1 reply.new.items) }
-    ensures tx { IsOf W.opening tx.new pass.new }
-    ensures room { REPLY_ROOM ≤ length reply.new.items + reply.new.spare }
-    ensures session { pass.new.session ≡ pass.old.session }
-{
-    let (answered, then) = asked(rt, alloc, engine, pass, tx, handshake, settings, text, why);
-    let end = set_end_of(settings.capabilities);
-    let status = status_of(then.autocommit, tx);
-    let rows = put_outcome(alloc, answered, end, number, status, reply);
-    (ConnectionState::At(Phase::Commands(then)), rows)
-}
-
-/// The reply to a query, and the session's state after it.
-/// The clauses tell what became of the pass, the transaction and the reply, which are lent one by one.
-fn put_query<W: World + Send + Sync, J: Naming + Send + Sync, G: Gate>(
-    rt: &(impl Threads + Wait + Sync),
-    alloc: Global,
-    engine: &Engine<W, J, G>,
-    pass: &mut ShardPass<W, J>,
-    tx: &mut Tx<W, J>,
-    handshake: &Handshake,
-    settings: Settings,
-    text: &[u8],
-    number: u8,
-    reply: &mut BytesMut,
-) -> (ConnectionState, Option<Chunks>)
-    requires empty { reply.old.items ≡ [] }
-    requires room { REPLY_ROOM ≤ reply.old.spare }
-    requires session { IsSome pass.old.session }
-    requires tx { IsOf W.opening tx.old pass.old }
-    ensures answers { (payload : Payload) → payload.first ≡ 0 → number ≡ reply_number payload → command_of payload.bytes ≡ Some (query text.now)
-        → LeadsKept W.opening pass.old tx.old pass.new tx.new
-        (λ s now. AnswersPayload (context_of W.opening handshake.now) (Means W.opening W.limits) (Phase.Commands settings) s payload (reply_bytes result.1 reply.new.items) result.0 now) }
-    ensures tx { IsOf W.opening tx.new pass.new }
-    ensures room { REPLY_ROOM ≤ length reply.new.items + reply.new.spare }
-    ensures session { pass.new.session ≡ pass.old.session }
-{
-    let outcome = run_text(rt, alloc, engine, pass, tx, settings, text);
-    match not_run(&outcome) {
-        None => {
-            let end = set_end_of(settings.capabilities);
-            let status = status_of(settings.autocommit, tx);
-            let rows = put_outcome(alloc, outcome, end, number, status, reply);
-            (ConnectionState::At(Phase::Commands(settings)), rows)
-        }
-        Some(why) => put_asked(
-            rt, alloc, engine, pass, tx, handshake, settings, text, why, number, reply,
-        ),
+impl<W: World + Send + Sync, J: Naming + Send + Sync, G: Gate, R: Threads + Wait + Sync> Responder<
+    '_,
+    W,
+    J,
+    G,
+    R,
+> {
+    /// The reply to a text that isn't run, by what it asks of the server, and the session's state after it.
+    /// Its caller has found what the text is refused for, and which number the reply has.
+    #[inline(never)]
+    fn put_asked(
+        &self,
+        pass: &mut ShardPass<W, J>,
+        state: &mut ReplyState<W, J>,
+        settings: Settings,
+        text: &[u8],
+        why: Refusal,
+        number: u8,
+    ) -> (ConnectionState, Option<Chunks>)
+        requires empty { state.old.reply.items ≡ [] }
+        requires room { REPLY_ROOM ≤ state.old.reply.spare }
+        requires session { IsSome pass.old.session }
+        requires tx { IsOf W.opening state.old.tx pass.old }
+        ensures answers { (outcome : Outcome) × (then : Settings) × (result.0 ≡ ConnectionState.At (Phase.Commands then))
+            × LeadsKept W.opening pass.old state.old.tx pass.new state.new.tx
+            (λ s now. AnswersAsked (context_of W.opening self.now.handshake.now) (Means W.opening W.limits) settings s text.now (Outcome.Refused why) outcome then now)
+            × TellsOutcome (set_end_of settings.capabilities) outcome number (status_flags then.autocommit (is_some state.new.tx)) (reply_bytes result.1 state.new.reply.items) }
+        ensures tx { IsOf W.opening state.new.tx pass.new }
+        ensures room { REPLY_ROOM ≤ length state.new.reply.items + state.new.reply.spare }
+        ensures session { pass.new.session ≡ pass.old.session }
+    {
+        let (answered, then) = self.asked(pass, &mut state.tx, settings, text, why);
+        let end = set_end_of(settings.capabilities);
+        let status = status_of(then.autocommit, &state.tx);
+        let rows = put_outcome(self.alloc, answered, end, number, status, &mut state.reply);
+        (ConnectionState::At(Phase::Commands(then)), rows)
     }
-}
 
-/// The reply to a command whose numbers are right, of which the last is given, and the session's state after it. A reply lies in the buffer, and
-/// what comes before that of a long one in chunks.
-/// The clauses tell what became of the pass, the transaction and the reply, which are lent one by one.
-pub(crate) fn put_command<W: World + Send + Sync, J: Naming + Send + Sync, G: Gate>(
-    rt: &(impl Threads + Wait + Sync),
-    alloc: Global,
-    engine: &Engine<W, J, G>,
-    pass: &mut ShardPass<W, J>,
-    tx: &mut Tx<W, J>,
-    handshake: &Handshake,
-    settings: Settings,
-    last: u8,
-    bytes: &[u8],
-    reply: &mut BytesMut,
-) -> (ConnectionState, Option<Chunks>)
-    requires empty { reply.old.items ≡ [] }
-    requires room { REPLY_ROOM ≤ reply.old.spare }
-    requires session { IsSome pass.old.session }
-    requires tx { IsOf W.opening tx.old pass.old }
-    ensures answers { LeadsKept W.opening pass.old tx.old pass.new tx.new
-        (λ s now. AnswersPayload (context_of W.opening handshake.now) (Means W.opening W.limits) (Phase.Commands settings) s (command_payload last bytes.now) (reply_bytes result.1 reply.new.items) result.0 now) }
-    ensures tx { IsOf W.opening tx.new pass.new }
-    ensures room { REPLY_ROOM ≤ length reply.new.items + reply.new.spare }
-    ensures session { pass.new.session ≡ pass.old.session }
-{
-    let number = last.wrapping_add(1);
-    let next = ConnectionState::At(Phase::Commands(settings));
-    match read_command(bytes) {
-        Err(refusal) => {
-            put_refusal(number, refusal, reply);
-            (next, None)
-        }
-        Ok(Command::Quit) => (ConnectionState::Ended(End::Quit), None),
-        Ok(Command::Ping) => {
-            put_pong(number, status_of(settings.autocommit, tx), reply);
-            (next, None)
-        }
-        Ok(Command::InitDb(name)) => {
-            let status = status_of(settings.autocommit, tx);
-            let chosen = put_selected(engine.schema(), settings, name, number, status, reply);
-            (chosen, None)
-        }
-        Ok(Command::Query(text)) => put_query(
-            rt, alloc, engine, pass, tx, handshake, settings, text, number, reply,
-        ),
-        Ok(Command::Statistics) => {
-            put_line(number, reply);
-            (next, None)
-        }
-        Ok(Command::MultiStatements(several)) => {
-            let end = set_end_of(settings.capabilities);
-            let status = status_of(settings.autocommit, tx);
-            put_option(several, end, number, status, reply);
-            (next, None)
-        }
-        Ok(Command::Reset) => {
-            *tx = Tx::new();
-            put_pong(number, status_flags(true, false), reply);
-            let first = Settings::at_first(settings.capabilities, settings.keyspace);
-            (ConnectionState::At(Phase::Commands(first)), None)
+    /// The reply to a query, and the session's state after it.
+    fn put_query(
+        &self,
+        pass: &mut ShardPass<W, J>,
+        state: &mut ReplyState<W, J>,
+        settings: Settings,
+        text: &[u8],
+        number: u8,
+    ) -> (ConnectionState, Option<Chunks>)
+        requires empty { state.old.reply.items ≡ [] }
+        requires room { REPLY_ROOM ≤ state.old.reply.spare }
+        requires session { IsSome pass.old.session }
+        requires tx { IsOf W.opening state.old.tx pass.old }
+        ensures answers { (payload : Payload) → payload.first ≡ 0 → number ≡ reply_number payload → command_of payload.bytes ≡ Some (query text.now)
+            → LeadsKept W.opening pass.old state.old.tx pass.new state.new.tx
+            (λ s now. AnswersPayload (context_of W.opening self.now.handshake.now) (Means W.opening W.limits) (Phase.Commands settings) s payload (reply_bytes result.1 state.new.reply.items) result.0 now) }
+        ensures tx { IsOf W.opening state.new.tx pass.new }
+        ensures room { REPLY_ROOM ≤ length state.new.reply.items + state.new.reply.spare }
+        ensures session { pass.new.session ≡ pass.old.session }
+    {
+        let outcome = self.run_text(pass, &mut state.tx, settings, text);
+        match not_run(&outcome) {
+            None => {
+                let end = set_end_of(settings.capabilities);
+                let status = status_of(settings.autocommit, &state.tx);
+                let rows = put_outcome(self.alloc, outcome, end, number, status, &mut state.reply);
+                (ConnectionState::At(Phase::Commands(settings)), rows)
+            }
+            Some(why) => self.put_asked(pass, state, settings, text, why, number),
         }
     }
-}
 
-/// What is written for one payload in the phase, and the session's state after it. A reply lies in the buffer, and what comes before that of a
-/// long one in chunks.
-/// The clauses tell what became of the pass, the transaction and the reply, which are lent one by one.
-pub fn put_reply<W: World + Send + Sync, J: Naming + Send + Sync, G: Gate>(
-    rt: &(impl Threads + Wait + Sync),
-    alloc: Global,
-    engine: &Engine<W, J, G>,
-    pass: &mut ShardPass<W, J>,
-    tx: &mut Tx<W, J>,
-    handshake: &Handshake,
-    phase: Phase,
-    payload: &Payload,
-    reply: &mut BytesMut,
-) -> (ConnectionState, Option<Chunks>)
-    requires empty { reply.old.items ≡ [] }
-    requires room { REPLY_ROOM ≤ reply.old.spare }
-    requires session { IsSome pass.old.session }
-    requires tx { IsOf W.opening tx.old pass.old }
-    ensures answers { LeadsKept W.opening pass.old tx.old pass.new tx.new
-        (λ s now. AnswersPayload (context_of W.opening handshake.now) (Means W.opening W.limits) phase s payload.now (reply_bytes result.1 reply.new.items) result.0 now) }
-    ensures tx { IsOf W.opening tx.new pass.new }
-    ensures room { REPLY_ROOM ≤ length reply.new.items + reply.new.spare }
-    ensures session { pass.new.session ≡ pass.old.session }
-{
-    if payload.first != first_number(phase) {
-        put_refusal(
-            payload.first.wrapping_add(1),
-            Refusal::PacketsOutOfOrder,
-            reply,
-        );
-        return (ConnectionState::Ended(End::Broken), None);
+    /// The reply to a command whose numbers are right, of which the last is given, and the session's state after it. A reply lies in the buffer, and
+    /// what comes before that of a long one in chunks.
+    pub(crate) fn put_command(
+        &self,
+        pass: &mut ShardPass<W, J>,
+        state: &mut ReplyState<W, J>,
+        settings: Settings,
+        last: u8,
+        bytes: &[u8],
+    ) -> (ConnectionState, Option<Chunks>)
+        requires empty { state.old.reply.items ≡ [] }
+        requires room { REPLY_ROOM ≤ state.old.reply.spare }
+        requires session { IsSome pass.old.session }
+        requires tx { IsOf W.opening state.old.tx pass.old }
+        ensures answers { LeadsKept W.opening pass.old state.old.tx pass.new state.new.tx
+            (λ s now. AnswersPayload (context_of W.opening self.now.handshake.now) (Means W.opening W.limits) (Phase.Commands settings) s (command_payload last bytes.now) (reply_bytes result.1 state.new.reply.items) result.0 now) }
+        ensures tx { IsOf W.opening state.new.tx pass.new }
+        ensures room { REPLY_ROOM ≤ length state.new.reply.items + state.new.reply.spare }
+        ensures session { pass.new.session ≡ pass.old.session }
+    {
+        let number = last.wrapping_add(1);
+        let next = ConnectionState::At(Phase::Commands(settings));
+        match read_command(bytes) {
+            Err(refusal) => {
+                put_refusal(number, refusal, &mut state.reply);
+                (next, None)
+            }
+            Ok(Command::Quit) => (ConnectionState::Ended(End::Quit), None),
+            Ok(Command::Ping) => {
+                put_pong(
+                    number,
+                    status_of(settings.autocommit, &state.tx),
+                    &mut state.reply,
+                );
+                (next, None)
+            }
+            Ok(Command::InitDb(name)) => {
+                let status = status_of(settings.autocommit, &state.tx);
+                let chosen = put_selected(
+                    self.engine.schema(),
+                    settings,
+                    name,
+                    number,
+                    status,
+                    &mut state.reply,
+                );
+                (chosen, None)
+            }
+            Ok(Command::Query(text)) => self.put_query(pass, state, settings, text, number),
+            Ok(Command::Statistics) => {
+                put_line(number, &mut state.reply);
+                (next, None)
+            }
+            Ok(Command::MultiStatements(several)) => {
+                let end = set_end_of(settings.capabilities);
+                let status = status_of(settings.autocommit, &state.tx);
+                put_option(several, end, number, status, &mut state.reply);
+                (next, None)
+            }
+            Ok(Command::Reset) => {
+                state.tx = Tx::new();
+                put_pong(number, status_flags(true, false), &mut state.reply);
+                let first = Settings::at_first(settings.capabilities, settings.keyspace);
+                (ConnectionState::At(Phase::Commands(first)), None)
+            }
+        }
     }
-    match phase {
-        Phase::Response => (
-            put_response(
-                handshake,
-                engine.schema(),
-                payload,
-                status_of(true, tx),
-                reply,
+
+    /// What is written for one payload in the phase, and the session's state after it. A reply lies in the buffer, and what comes before that of a
+    /// long one in chunks.
+    pub fn put_reply(
+        &self,
+        pass: &mut ShardPass<W, J>,
+        state: &mut ReplyState<W, J>,
+        phase: Phase,
+        payload: &Payload,
+    ) -> (ConnectionState, Option<Chunks>)
+        requires empty { state.old.reply.items ≡ [] }
+        requires room { REPLY_ROOM ≤ state.old.reply.spare }
+        requires session { IsSome pass.old.session }
+        requires tx { IsOf W.opening state.old.tx pass.old }
+        ensures answers { LeadsKept W.opening pass.old state.old.tx pass.new state.new.tx
+            (λ s now. AnswersPayload (context_of W.opening self.now.handshake.now) (Means W.opening W.limits) phase s payload.now (reply_bytes result.1 state.new.reply.items) result.0 now) }
+        ensures tx { IsOf W.opening state.new.tx pass.new }
+        ensures room { REPLY_ROOM ≤ length state.new.reply.items + state.new.reply.spare }
+        ensures session { pass.new.session ≡ pass.old.session }
+    {
+        if payload.first != first_number(phase) {
+            put_refusal(
+                payload.first.wrapping_add(1),
+                Refusal::PacketsOutOfOrder,
+                &mut state.reply,
+            );
+            return (ConnectionState::Ended(End::Broken), None);
+        }
+        match phase {
+            Phase::Response => (
+                put_response(
+                    self.handshake,
+                    self.engine.schema(),
+                    payload,
+                    status_of(true, &state.tx),
+                    &mut state.reply,
+                ),
+                None,
             ),
-            None,
-        ),
-        Phase::Switch(login) => (
-            put_answer(handshake, login, payload, status_of(true, tx), reply),
-            None,
-        ),
-        Phase::Commands(settings) => {
-            let bytes = payload.bytes.as_slice();
-            put_command(
-                rt,
-                alloc,
-                engine,
-                pass,
-                tx,
-                handshake,
-                settings,
-                payload.last,
-                bytes,
-                reply,
-            )
+            Phase::Switch(login) => (
+                put_answer(
+                    self.handshake,
+                    login,
+                    payload,
+                    status_of(true, &state.tx),
+                    &mut state.reply,
+                ),
+                None,
+            ),
+            Phase::Commands(settings) => {
+                let bytes = payload.bytes.as_slice();
+                self.put_command(pass, state, settings, payload.last, bytes)
+            }
         }
     }
 }

@@ -13,14 +13,14 @@ ghost use Rattle.conversation.specs.GivesText.{opens_one, OpensOne, RunsText, An
 ghost use Rattle.conversation.specs.inner.Means.{LeadsKept, GivesNoRows, IsReading, AnswersAsked, opens_read};
 ghost use Rattle.conversation.specs.inner.Tellings.{turns_on};
 
-use crate::access::Handshake;
 use crate::client_reply::{ClientReply, ClientReplyKind, ShownSet};
 use crate::columns::columns_of;
 use crate::connection_state::Settings;
 use crate::local_answers::{done, local_answer, refused, turns_on};
+use crate::responder::Responder;
 use client_statements::{ClientStatement, read};
 use journal::Naming;
-use route_engine::{Answer, Engine, Gate, Selected, Tx};
+use route_engine::{Answer, Gate, Selected, Tx};
 use shard::{ShardPass, World};
 use sql_parser::parse;
 use sql_tree::Statement;
@@ -79,84 +79,6 @@ fn shown_rows<'e>(alloc: Global, schema: &'e VSchema, selected: Selected) -> Cli
     }
 }
 
-/// What the text of a statement gives its client.
-#[inline(always)]
-fn outcome_of<'e, W: World + Send + Sync, J: Naming + Send + Sync, G: Gate>(
-    rt: &(impl Threads + Wait + Sync),
-    alloc: Global,
-    engine: &'e Engine<W, J, G>,
-    pass: &mut ShardPass<W, J>,
-    tx: &mut Tx<W, J>,
-    text: &[u8],
-) -> ClientReply<'e>
-    requires session { IsSome pass.old.session }
-    requires tx { IsOf W.opening tx.old pass.old }
-    ensures means { LeadsKept W.opening pass.old tx.old pass.new tx.new (λ s now. Means W.opening W.limits s text.now result now) }
-    ensures tx { IsOf W.opening tx.new pass.new }
-    ensures session { pass.new.session ≡ pass.old.session }
-{
-    match engine.execute(rt, alloc, pass, tx, text) {
-        Ok(reply) => {
-            drop(reply.reads);
-            shown(alloc, engine.schema(), reply.answer)
-        }
-        Err(refusal) => ClientReply {
-            reply_kind: ClientReplyKind::Refused(refusal),
-        },
-    }
-}
-
-/// Runs BEGIN if none is open, or COMMIT, which give no rows.
-fn run_command<W: World + Send + Sync, J: Naming + Send + Sync, G: Gate>(
-    rt: &(impl Threads + Wait + Sync),
-    alloc: Global,
-    engine: &Engine<W, J, G>,
-    pass: &mut ShardPass<W, J>,
-    tx: &mut Tx<W, J>,
-    command: &[u8],
-) -> Result<(), Refusal>
-    requires session { IsSome pass.old.session }
-    requires tx { IsOf W.opening tx.old pass.old }
-    requires no_rows { GivesNoRows command.now tx.old }
-    ensures ok { IfOk result (λ _. LeadsKept W.opening pass.old tx.old pass.new tx.new (λ s now. Means W.opening W.limits s command.now (Outcome.Count 0) now)) }
-    ensures err { IfErr result (λ why. LeadsKept W.opening pass.old tx.old pass.new tx.new (λ s now. Means W.opening W.limits s command.now (Outcome.Refused why) now)) }
-    ensures tx { IsOf W.opening tx.new pass.new }
-    ensures session { pass.new.session ≡ pass.old.session }
-{
-    match engine.execute(rt, alloc, pass, tx, command) {
-        Ok(reply) => {
-            drop(reply);
-            Ok(())
-        }
-        Err(why) => Err(why),
-    }
-}
-
-/// What a text gives after BEGIN, or BEGIN's refusal.
-fn after_begin<'e, W: World + Send + Sync, J: Naming + Send + Sync, G: Gate>(
-    rt: &(impl Threads + Wait + Sync),
-    alloc: Global,
-    engine: &'e Engine<W, J, G>,
-    pass: &mut ShardPass<W, J>,
-    tx: &mut Tx<W, J>,
-    text: &[u8],
-) -> ClientReply<'e>
-    requires session { IsSome pass.old.session }
-    requires tx { IsOf W.opening tx.old pass.old }
-    requires closed { tx.old ≡ None }
-    ensures runs { (handshake : Handshake) (set : Settings) → set.autocommit ≡ false → OpensOne text.now → LeadsKept W.opening pass.old tx.old pass.new tx.new
-        (λ s now. RunsText (context_of W.opening handshake) (Means W.opening W.limits) set s text.now result now) }
-    ensures tx { IsOf W.opening tx.new pass.new }
-    ensures session { pass.new.session ≡ pass.old.session }
-{
-    match run_command(rt, alloc, engine, pass, tx, b"BEGIN") {
-        Ok(()) => outcome_of(rt, alloc, engine, pass, tx, text),
-        Err(why) => ClientReply {
-            reply_kind: ClientReplyKind::Refused(why),
-        },
-    }
-}
-
 /// Whether a statement opens a transaction, if autocommit is off and none is open.
 fn opens_one(statement: &Statement) -> bool
     ensures { result ≡ opens_one statement.now }
@@ -189,183 +111,239 @@ fn text_opens_one(alloc: Global, text: &[u8]) -> Result<bool, Refusal>
     opens
 }
 
-/// What a text gives that is run over the tables while autocommit is off and no transaction is open: one is opened first, if it needs that.
-/// The clauses tell what became of the pass and the transaction, which are lent one by one.
-#[inline(never)]
-fn run_unopened<'e, W: World + Send + Sync, J: Naming + Send + Sync, G: Gate>(
-    rt: &(impl Threads + Wait + Sync),
-    alloc: Global,
-    engine: &'e Engine<W, J, G>,
-    pass: &mut ShardPass<W, J>,
-    tx: &mut Tx<W, J>,
-    settings: Settings,
-    text: &[u8],
-) -> ClientReply<'e>
-    requires session { IsSome pass.old.session }
-    requires tx { IsOf W.opening tx.old pass.old }
-    requires off { settings.autocommit ≡ false }
-    requires closed { tx.old ≡ None }
-    ensures runs { (handshake : Handshake) → LeadsKept W.opening pass.old tx.old pass.new tx.new
-        (λ s now. RunsText (context_of W.opening handshake) (Means W.opening W.limits) settings s text.now result now) }
-    ensures tx { IsOf W.opening tx.new pass.new }
-    ensures session { pass.new.session ≡ pass.old.session }
-{
-    match text_opens_one(alloc, text) {
-        Ok(true) => after_begin(rt, alloc, engine, pass, tx, text),
-        Ok(false) => outcome_of(rt, alloc, engine, pass, tx, text),
-        Err(why) => ClientReply {
-            reply_kind: ClientReplyKind::Refused(why),
-        },
-    }
-}
-
-/// What a text gives that is run over the tables.
-/// The clauses tell what became of the pass and the transaction, which are lent one by one.
-pub(crate) fn run_text<'e, W: World + Send + Sync, J: Naming + Send + Sync, G: Gate>(
-    rt: &(impl Threads + Wait + Sync),
-    alloc: Global,
-    engine: &'e Engine<W, J, G>,
-    pass: &mut ShardPass<W, J>,
-    tx: &mut Tx<W, J>,
-    settings: Settings,
-    text: &[u8],
-) -> ClientReply<'e>
-    requires session { IsSome pass.old.session }
-    requires tx { IsOf W.opening tx.old pass.old }
-    ensures runs { (handshake : Handshake) → LeadsKept W.opening pass.old tx.old pass.new tx.new
-        (λ s now. RunsText (context_of W.opening handshake) (Means W.opening W.limits) settings s text.now result now) }
-    ensures tx { IsOf W.opening tx.new pass.new }
-    ensures session { pass.new.session ≡ pass.old.session }
-{
-    if settings.autocommit || tx.is_open() {
-        return outcome_of(rt, alloc, engine, pass, tx, text);
-    }
-    run_unopened(rt, alloc, engine, pass, tx, settings, text)
-}
-
-/// What turning autocommit on gives, and what then holds for commands. It commits an open transaction, and stays off if that is refused.
-fn turned_on<'e, W: World + Send + Sync, J: Naming + Send + Sync, G: Gate>(
-    rt: &(impl Threads + Wait + Sync),
-    alloc: Global,
-    engine: &'e Engine<W, J, G>,
-    pass: &mut ShardPass<W, J>,
-    tx: &mut Tx<W, J>,
-    settings: Settings,
-) -> (ClientReply<'e>, Settings)
-    requires session { IsSome pass.old.session }
-    requires tx { IsOf W.opening tx.old pass.old }
-    requires off { settings.autocommit ≡ false }
-    ensures gives { (handshake : Handshake) → LeadsKept W.opening pass.old tx.old pass.new tx.new
-        (λ s now. AnswersClient (context_of W.opening handshake) (Means W.opening W.limits) settings s (ClientStatement.Set (Some true)) result.0 result.1 now) }
-    ensures tx { IsOf W.opening tx.new pass.new }
-    ensures session { pass.new.session ≡ pass.old.session }
-{
-    if !tx.is_open() {
-        return (done(), settings.with_autocommit(true));
-    }
-    match run_command(rt, alloc, engine, pass, tx, b"COMMIT") {
-        Ok(()) => (done(), settings.with_autocommit(true)),
-        Err(why) => (refused(why), settings),
-    }
-}
-
-/// What a statement gives that asks something of the server, and what then holds for commands.
-/// The clauses tell what became of the pass and the transaction, which are lent one by one.
-fn statement_outcome<'e, W: World + Send + Sync, J: Naming + Send + Sync, G: Gate>(
-    rt: &(impl Threads + Wait + Sync),
-    alloc: Global,
-    engine: &'e Engine<W, J, G>,
-    pass: &mut ShardPass<W, J>,
-    tx: &mut Tx<W, J>,
-    handshake: &Handshake,
-    settings: Settings,
-    statement: &ClientStatement,
-) -> (ClientReply<'e>, Settings)
-    requires session { IsSome pass.old.session }
-    requires tx { IsOf W.opening tx.old pass.old }
-    ensures gives { LeadsKept W.opening pass.old tx.old pass.new tx.new
-        (λ s now. AnswersClient (context_of W.opening handshake.now) (Means W.opening W.limits) settings s statement.now result.0 result.1 now) }
-    ensures tx { IsOf W.opening tx.new pass.new }
-    ensures session { pass.new.session ≡ pass.old.session }
-{
-    if turns_on(settings, statement) {
-        let (reply, then) = turned_on(rt, alloc, engine, pass, tx, settings);
-        return (reply, then);
-    }
-    match statement {
-        ClientStatement::Begin => {
-            let begun = outcome_of(rt, alloc, engine, pass, tx, b"BEGIN");
-            (begun, settings)
-        }
-        _ => {
-            let (reply, then) = local_answer(
-                alloc,
-                engine.schema(),
-                handshake,
-                settings,
-                statement,
-            );
-            (reply, then)
+impl<
+    'e,
+    W: World + Send + Sync,
+    J: Naming + Send + Sync,
+    G: Gate,
+    R: Threads + Wait + Sync,
+> Responder<'e, W, J, G, R> {
+    /// What the text of a statement gives its client.
+    #[inline(always)]
+    fn outcome_of(
+        &self,
+        pass: &mut ShardPass<W, J>,
+        tx: &mut Tx<W, J>,
+        text: &[u8],
+    ) -> ClientReply<'e>
+        requires session { IsSome pass.old.session }
+        requires tx { IsOf W.opening tx.old pass.old }
+        ensures means { LeadsKept W.opening pass.old tx.old pass.new tx.new (λ s now. Means W.opening W.limits s text.now result now) }
+        ensures tx { IsOf W.opening tx.new pass.new }
+        ensures session { pass.new.session ≡ pass.old.session }
+    {
+        match self.engine.execute(self.rt, self.alloc, pass, tx, text) {
+            Ok(reply) => {
+                drop(reply.reads);
+                shown(self.alloc, self.engine.schema(), reply.answer)
+            }
+            Err(refusal) => ClientReply {
+                reply_kind: ClientReplyKind::Refused(refusal),
+            },
         }
     }
-}
 
-/// What is given by what a text asks of the server, and what then holds for commands; if that is nothing, it is refused for why it wasn't run.
-/// The clauses tell what became of the pass and the transaction, which are lent one by one.
-fn answer_read<'e, W: World + Send + Sync, J: Naming + Send + Sync, G: Gate>(
-    rt: &(impl Threads + Wait + Sync),
-    alloc: Global,
-    engine: &'e Engine<W, J, G>,
-    pass: &mut ShardPass<W, J>,
-    tx: &mut Tx<W, J>,
-    handshake: &Handshake,
-    settings: Settings,
-    why: Refusal,
-    asks: &Option<ClientStatement>,
-) -> (ClientReply<'e>, Settings)
-    requires session { IsSome pass.old.session }
-    requires tx { IsOf W.opening tx.old pass.old }
-    ensures gives { (text : List ℕ) → IsReading text asks.now → LeadsKept W.opening pass.old tx.old pass.new tx.new
-        (λ s now. AnswersAsked (context_of W.opening handshake.now) (Means W.opening W.limits) settings s text (Outcome.Refused why) result.0 result.1 now) }
-    ensures tx { IsOf W.opening tx.new pass.new }
-    ensures session { pass.new.session ≡ pass.old.session }
-{
-    match asks {
-        Some(statement) => {
-            statement_outcome(rt, alloc, engine, pass, tx, handshake, settings, statement)
+    /// Runs BEGIN if none is open, or COMMIT, which give no rows.
+    fn run_command(
+        &self,
+        pass: &mut ShardPass<W, J>,
+        tx: &mut Tx<W, J>,
+        command: &[u8],
+    ) -> Result<(), Refusal>
+        requires session { IsSome pass.old.session }
+        requires tx { IsOf W.opening tx.old pass.old }
+        requires no_rows { GivesNoRows command.now tx.old }
+        ensures ok { IfOk result (λ _. LeadsKept W.opening pass.old tx.old pass.new tx.new (λ s now. Means W.opening W.limits s command.now (Outcome.Count 0) now)) }
+        ensures err { IfErr result (λ why. LeadsKept W.opening pass.old tx.old pass.new tx.new (λ s now. Means W.opening W.limits s command.now (Outcome.Refused why) now)) }
+        ensures tx { IsOf W.opening tx.new pass.new }
+        ensures session { pass.new.session ≡ pass.old.session }
+    {
+        match self.engine.execute(self.rt, self.alloc, pass, tx, command) {
+            Ok(reply) => {
+                drop(reply);
+                Ok(())
+            }
+            Err(why) => Err(why),
         }
-        None => (refused(why), settings),
     }
-}
 
-/// What a text gives that isn't run, and what then holds for commands: what it asks of the server, or its refusal.
-/// The clauses tell what became of the pass and the transaction, which are lent one by one.
-pub(crate) fn asked<'e, W: World + Send + Sync, J: Naming + Send + Sync, G: Gate>(
-    rt: &(impl Threads + Wait + Sync),
-    alloc: Global,
-    engine: &'e Engine<W, J, G>,
-    pass: &mut ShardPass<W, J>,
-    tx: &mut Tx<W, J>,
-    handshake: &Handshake,
-    settings: Settings,
-    text: &[u8],
-    why: Refusal,
-) -> (ClientReply<'e>, Settings)
-    requires session { IsSome pass.old.session }
-    requires tx { IsOf W.opening tx.old pass.old }
-    ensures gives { LeadsKept W.opening pass.old tx.old pass.new tx.new
-        (λ s now. AnswersAsked (context_of W.opening handshake.now) (Means W.opening W.limits) settings s text.now (Outcome.Refused why) result.0 result.1 now) }
-    ensures tx { IsOf W.opening tx.new pass.new }
-    ensures session { pass.new.session ≡ pass.old.session }
-{
-    match read(alloc, text) {
-        Ok(asks) => {
-            let answered = answer_read(
-                rt, alloc, engine, pass, tx, handshake, settings, why, &asks,
-            );
-            drop(asks);
-            answered
+    /// What a text gives after BEGIN, or BEGIN's refusal.
+    fn after_begin(
+        &self,
+        pass: &mut ShardPass<W, J>,
+        tx: &mut Tx<W, J>,
+        text: &[u8],
+    ) -> ClientReply<'e>
+        requires session { IsSome pass.old.session }
+        requires tx { IsOf W.opening tx.old pass.old }
+        requires closed { tx.old ≡ None }
+        ensures runs { (handshake : Handshake) (set : Settings) → set.autocommit ≡ false → OpensOne text.now → LeadsKept W.opening pass.old tx.old pass.new tx.new
+            (λ s now. RunsText (context_of W.opening handshake) (Means W.opening W.limits) set s text.now result now) }
+        ensures tx { IsOf W.opening tx.new pass.new }
+        ensures session { pass.new.session ≡ pass.old.session }
+    {
+        match self.run_command(pass, tx, b"BEGIN") {
+            Ok(()) => self.outcome_of(pass, tx, text),
+            Err(why) => ClientReply {
+                reply_kind: ClientReplyKind::Refused(why),
+            },
         }
-        Err(_) => (refused(Refusal::OutOfMemory), settings),
+    }
+
+    /// What a text gives that is run over the tables while autocommit is off and no transaction is open: one is opened first, if it needs that.
+    #[inline(never)]
+    fn run_unopened(
+        &self,
+        pass: &mut ShardPass<W, J>,
+        tx: &mut Tx<W, J>,
+        settings: Settings,
+        text: &[u8],
+    ) -> ClientReply<'e>
+        requires session { IsSome pass.old.session }
+        requires tx { IsOf W.opening tx.old pass.old }
+        requires off { settings.autocommit ≡ false }
+        requires closed { tx.old ≡ None }
+        ensures runs { (handshake : Handshake) → LeadsKept W.opening pass.old tx.old pass.new tx.new
+            (λ s now. RunsText (context_of W.opening handshake) (Means W.opening W.limits) settings s text.now result now) }
+        ensures tx { IsOf W.opening tx.new pass.new }
+        ensures session { pass.new.session ≡ pass.old.session }
+    {
+        match text_opens_one(self.alloc, text) {
+            Ok(true) => self.after_begin(pass, tx, text),
+            Ok(false) => self.outcome_of(pass, tx, text),
+            Err(why) => ClientReply {
+                reply_kind: ClientReplyKind::Refused(why),
+            },
+        }
+    }
+
+    /// What a text gives that is run over the tables.
+    pub(crate) fn run_text(
+        &self,
+        pass: &mut ShardPass<W, J>,
+        tx: &mut Tx<W, J>,
+        settings: Settings,
+        text: &[u8],
+    ) -> ClientReply<'e>
+        requires session { IsSome pass.old.session }
+        requires tx { IsOf W.opening tx.old pass.old }
+        ensures runs { (handshake : Handshake) → LeadsKept W.opening pass.old tx.old pass.new tx.new
+            (λ s now. RunsText (context_of W.opening handshake) (Means W.opening W.limits) settings s text.now result now) }
+        ensures tx { IsOf W.opening tx.new pass.new }
+        ensures session { pass.new.session ≡ pass.old.session }
+    {
+        if settings.autocommit || tx.is_open() {
+            return self.outcome_of(pass, tx, text);
+        }
+        self.run_unopened(pass, tx, settings, text)
+    }
+
+    /// What turning autocommit on gives, and what then holds for commands. It commits an open transaction, and stays off if that is refused.
+    fn turned_on(
+        &self,
+        pass: &mut ShardPass<W, J>,
+        tx: &mut Tx<W, J>,
+        settings: Settings,
+    ) -> (ClientReply<'e>, Settings)
+        requires session { IsSome pass.old.session }
+        requires tx { IsOf W.opening tx.old pass.old }
+        requires off { settings.autocommit ≡ false }
+        ensures gives { (handshake : Handshake) → LeadsKept W.opening pass.old tx.old pass.new tx.new
+            (λ s now. AnswersClient (context_of W.opening handshake) (Means W.opening W.limits) settings s (ClientStatement.Set (Some true)) result.0 result.1 now) }
+        ensures tx { IsOf W.opening tx.new pass.new }
+        ensures session { pass.new.session ≡ pass.old.session }
+    {
+        if !tx.is_open() {
+            return (done(), settings.with_autocommit(true));
+        }
+        match self.run_command(pass, tx, b"COMMIT") {
+            Ok(()) => (done(), settings.with_autocommit(true)),
+            Err(why) => (refused(why), settings),
+        }
+    }
+
+    /// What a statement gives that asks something of the server, and what then holds for commands.
+    fn statement_outcome(
+        &self,
+        pass: &mut ShardPass<W, J>,
+        tx: &mut Tx<W, J>,
+        settings: Settings,
+        statement: &ClientStatement,
+    ) -> (ClientReply<'e>, Settings)
+        requires session { IsSome pass.old.session }
+        requires tx { IsOf W.opening tx.old pass.old }
+        ensures gives { LeadsKept W.opening pass.old tx.old pass.new tx.new
+            (λ s now. AnswersClient (context_of W.opening self.now.handshake.now) (Means W.opening W.limits) settings s statement.now result.0 result.1 now) }
+        ensures tx { IsOf W.opening tx.new pass.new }
+        ensures session { pass.new.session ≡ pass.old.session }
+    {
+        if turns_on(settings, statement) {
+            let (reply, then) = self.turned_on(pass, tx, settings);
+            return (reply, then);
+        }
+        match statement {
+            ClientStatement::Begin => {
+                let begun = self.outcome_of(pass, tx, b"BEGIN");
+                (begun, settings)
+            }
+            _ => {
+                let (reply, then) = local_answer(
+                    self.alloc,
+                    self.engine.schema(),
+                    self.handshake,
+                    settings,
+                    statement,
+                );
+                (reply, then)
+            }
+        }
+    }
+
+    /// What is given by what a text asks of the server, and what then holds for commands; if that is nothing, it is refused for why it wasn't run.
+    fn answer_read(
+        &self,
+        pass: &mut ShardPass<W, J>,
+        tx: &mut Tx<W, J>,
+        settings: Settings,
+        why: Refusal,
+        asks: &Option<ClientStatement>,
+    ) -> (ClientReply<'e>, Settings)
+        requires session { IsSome pass.old.session }
+        requires tx { IsOf W.opening tx.old pass.old }
+        ensures gives { (text : List ℕ) → IsReading text asks.now → LeadsKept W.opening pass.old tx.old pass.new tx.new
+            (λ s now. AnswersAsked (context_of W.opening self.now.handshake.now) (Means W.opening W.limits) settings s text (Outcome.Refused why) result.0 result.1 now) }
+        ensures tx { IsOf W.opening tx.new pass.new }
+        ensures session { pass.new.session ≡ pass.old.session }
+    {
+        match asks {
+            Some(statement) => { self.statement_outcome(pass, tx, settings, statement) }
+            None => (refused(why), settings),
+        }
+    }
+
+    /// What a text gives that isn't run, and what then holds for commands: what it asks of the server, or its refusal.
+    pub(crate) fn asked(
+        &self,
+        pass: &mut ShardPass<W, J>,
+        tx: &mut Tx<W, J>,
+        settings: Settings,
+        text: &[u8],
+        why: Refusal,
+    ) -> (ClientReply<'e>, Settings)
+        requires session { IsSome pass.old.session }
+        requires tx { IsOf W.opening tx.old pass.old }
+        ensures gives { LeadsKept W.opening pass.old tx.old pass.new tx.new
+            (λ s now. AnswersAsked (context_of W.opening self.now.handshake.now) (Means W.opening W.limits) settings s text.now (Outcome.Refused why) result.0 result.1 now) }
+        ensures tx { IsOf W.opening tx.new pass.new }
+        ensures session { pass.new.session ≡ pass.old.session }
+    {
+        match read(self.alloc, text) {
+            Ok(asks) => {
+                let answered = self.answer_read(pass, tx, settings, why, &asks);
+                drop(asks);
+                answered
+            }
+            Err(_) => (refused(Refusal::OutOfMemory), settings),
+        }
     }
 }

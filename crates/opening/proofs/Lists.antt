@@ -3,8 +3,8 @@ use Rattle.std.proofs.Common.{◌≡◌, ◌≢◌, ℕ, zero, suc, ◌+◌, ◌
 use Rattle.std.specs.List.{AllByRecursion}
 use Rattle.vschema.specs.Schema.{ordinal_from}
 
-same_place : (a b : ℕ) → Some a ≡ Some b → a ≡ b
-same_place a b e = ap or e
+same_ordinal : (a b : ℕ) → Some a ≡ Some b → a ≡ b
+same_ordinal a b e = ap or e
   where
     or : Option ℕ → ℕ
     or None = a
@@ -62,21 +62,21 @@ module _ {X : Type 0} where
       by false l m f = f l ∙ ap Some next
 
   -- what is found is there, and passes
-  pub record Placed (p : X → Bool) (n : ℕ) (xs : List X) (place : ℕ) : Type 0 where
+  pub record Placed (p : X → Bool) (n : ℕ) (xs : List X) (ordinal : ℕ) : Type 0 where
     pub k : ℕ
     pub x : X
-    pub is : place ≡ n + k
+    pub is : ordinal ≡ n + k
     pub there : slice_get xs k ≡ Some x
     pub passes : p x ≡ true
 
-  pub placed : (p : X → Bool) (n : ℕ) (xs : List X) (place : ℕ) → ordinal_from p n xs ≡ Some place → Placed p n xs place
-  placed p n [] place e = absurd (cc e)
-  placed p n (x ∷ xs) place e = by (p x) refl e (placed p (n + 1) xs place)
+  pub placed : (p : X → Bool) (n : ℕ) (xs : List X) (ordinal : ℕ) → ordinal_from p n xs ≡ Some ordinal → Placed p n xs ordinal
+  placed p n [] ordinal e = absurd (cc e)
+  placed p n (x ∷ xs) ordinal e = by (p x) refl e (placed p (n + 1) xs ordinal)
     where
-      by : (b : Bool) → p x ≡ b → cond b (Some n) (ordinal_from p (n + 1) xs) ≡ Some place
-          → (ordinal_from p (n + 1) xs ≡ Some place → Placed p (n + 1) xs place) → Placed p n (x ∷ xs) place
+      by : (b : Bool) → p x ≡ b → cond b (Some n) (ordinal_from p (n + 1) xs) ≡ Some ordinal
+          → (ordinal_from p (n + 1) xs ≡ Some ordinal → Placed p (n + 1) xs ordinal) → Placed p n (x ∷ xs) ordinal
       by true t e f =
-          let i : n ≡ place = same_place n place e in
+          let i : n ≡ ordinal = same_ordinal n ordinal e in
           record { k = zero; x = x; is = omega (arith, i); there = refl; passes = t }
       by false t e f =
           let g = f e in

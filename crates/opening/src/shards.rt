@@ -16,9 +16,9 @@ use vt_value::Items;
 fn unsharded_keyspace(schema: &VSchema) -> Option<usize>
     ensures { result ≡ unsharded_keyspace schema.now }
 {
-    for (place, keyspace) in schema.keyspaces.as_slice().iter().enumerate() {
+    for (ordinal, keyspace) in schema.keyspaces.as_slice().iter().enumerate() {
         if !keyspace.sharded {
-            return Some(place);
+            return Some(ordinal);
         }
     }
     None
@@ -28,9 +28,9 @@ fn unsharded_keyspace(schema: &VSchema) -> Option<usize>
 pub fn sharded_keyspace(schema: &VSchema) -> Option<usize>
     ensures { result ≡ sharded_keyspace schema.now }
 {
-    for (place, keyspace) in schema.keyspaces.as_slice().iter().enumerate() {
+    for (ordinal, keyspace) in schema.keyspaces.as_slice().iter().enumerate() {
         if keyspace.sharded {
-            return Some(place);
+            return Some(ordinal);
         }
     }
     None

@@ -1,6 +1,6 @@
 -- What the engine's parts do in an open transaction, from what they tell of its shard.
 use Rattle.std.proofs.Common.{◌≡◌, ◌⊎◌, inl, inr, ℕ, ◌≤◌, true, List, [], ◌∷◌, length, Option, Some, None, Result, Ok, Err, refl, sym, ap, subst, ◌∙◌}
-use Rattle.std.specs.Prelude.{IsSome, IfOk, IfErr, OnOk}
+use Rattle.std.specs.Prelude.{IfOk, IfErr, OnOk}
 use Rattle.std.specs.List.{AllByRecursion}
 use Rattle.vt_value.specs.declared.refusal.Refusal.{Refusal}
 use Rattle.vt_value.specs.declared.refusal.Refusal.TheVariants.{OutOfMemory, SeveralShards, NotSupported}
@@ -37,6 +37,7 @@ use Rattle.shard_calls.specs.Transactions.{Transaction, PassAndTx, GivesIn, IsRe
 use Rattle.shard_calls.specs.Pendings as stands
 use Rattle.shard_calls.specs.Pendings.{BoundView, OpenView, Represents, IsOf, bound_of}
 use Rattle.shard_calls.specs.inner.InTransactions.{GoesOnIn, IsRefusedStep, IsSeatOf, NeedsNoSeat, NeedsOther, HasReadAt, IsNotReadAt, HasWrittenAt, IsNotWrittenAt, HasCommittedAt, IsNotCommittedAt}
+use Rattle.route_engine.specs.inner.Pendings.{IsReady}
 use Rattle.route_engine.proofs.Anywhere.{reads_nowhere, writes_nowhere, names_anywhere}
 use Rattle.shard_calls.proofs.Gathers.{stays}
 use Rattle.route_engine.proofs.Stepping as s
@@ -51,14 +52,21 @@ pub open_one : (o : Opening) (p : PassView Entry) (v : OpenView) → IsOf o (Som
 open_one o p v (_, stands.unbound {t = tr} l all none) = (tr, stands.unbound l all none)
 open_one o p v (_, stands.bound {t = tr} is) = (tr, stands.bound is)
 
-module _ (o : Opening) (opens : IsOpening o) (formed : is_vschema o.schema ≡ true) (limits : Limits) (p : PassView Entry)
-    (legal : IsLegal (MayFollow o) p.seen) (some : IsSome p.session)
-    (above : (n : ℕ) → p.session ≡ Some n → NumbersBelow commit_of n p.statements p.seen) (v : OpenView) where
+module _ (o : Opening) (limits : Limits) (p : PassView Entry) (ready : IsReady o p) (v : OpenView) where
+  opens : IsOpening o
+  opens = ready.opens
+
+  formed : is_vschema o.schema ≡ true
+  formed = ready.formed
+
+  legal : IsLegal (MayFollow o) p.seen
+  legal = ready.legal
+
   mine : Of p
-  mine = session_of p some
+  mine = session_of p ready.session
 
   below : NumbersBelow commit_of mine.session p.statements p.seen
-  below = above mine.session mine.is
+  below = ready.above mine.session mine.is
 
   -- what the shard's calls ask
   pub tied_to : IsOf o (Some v) p → (b : BoundView) → Fits v b → (u : ShardRecord) → bound_of u b.seats ≡ b → IsPendingOf o u v.pending p

@@ -134,12 +134,7 @@ module _ (o : Opening) (limits : Limits) (p : PassView Entry) (w : Option OpenVi
 abbrev pub opened_with : Option BoundView → PendingView → OpenView
 opened_with bound pending = record { bound = bound; pending = pending }
 
-pub same_view : (given : Result Reply Refusal) (a b : Option BoundView) (x y : PendingView) → OnErr given (a ≡ b) → OnErr given (x ≡ y)
-    → OnErr given (opened_with a x ≡ opened_with b y)
-same_view (Ok reply) a b x y bounds pendings = tt
-same_view (Err e) a b x y bounds pendings = ap (λ (z : Option BoundView). opened_with z x) bounds ∙ ap (opened_with b) pendings
-
-module _ (o : Opening) (limits : Limits) (p now : PassView Entry) (u v w : OpenView) (kept_is : u ≡ v) (ty : Typed) where
+module _ (o : Opening) (limits : Limits) (p now : PassView Entry) (v w : OpenView) (ty : Typed) where
   kept : (b : Bool) → cond b false true ≡ true → cond b None (Some w) ≡ Some w
   kept true is = absurd (false≢true is)
   kept false is = refl
@@ -159,29 +154,29 @@ module _ (o : Opening) (limits : Limits) (p now : PassView Entry) (u v w : OpenV
   Refuses x e = Leads o p (Some v) now x (λ tr u. IsRefusedBy o limits p tr ty e (record { pass = now; tx = u }))
 
   pub stays_answered : (given : Result Reply Refusal) → stays_open (closes ty) given ≡ true
-      → IfOk given (λ reply. GoesOnIn o limits p u ty reply now (kept_by ty w)) → IfOk given (Answers (Some w))
+      → IfOk given (λ reply. GoesOnIn o limits p v ty reply now (kept_by ty w)) → IfOk given (Answers (Some w))
   stays_answered (Ok reply) is goes =
-      subst (λ (x : Option OpenView). Answers x reply) (kept (closes ty) is) (goes_leads o limits p now v ty reply (kept_by ty w) (subst (λ (x : OpenView). GoesOnIn o limits p x ty reply now (kept_by ty w)) kept_is goes))
+      subst (λ (x : Option OpenView). Answers x reply) (kept (closes ty) is) (goes_leads o limits p now v ty reply (kept_by ty w) goes)
   stays_answered (Err e) is goes = tt
 
   pub stays_refused : (given : Result Reply Refusal) → stays_open (closes ty) given ≡ true
-      → IfErr given (λ e. IsRefusedStep o limits p u ty e now) → OnErr given (w ≡ u) → IfErr given (Refuses (Some w))
+      → IfErr given (λ e. IsRefusedStep o limits p v ty e now) → OnErr given (w ≡ v) → IfErr given (Refuses (Some w))
   stays_refused (Ok reply) is fault same = tt
   stays_refused (Err e) is fault same =
       subst (λ (x : Option OpenView). Refuses x e)
-      (ap (λ (b : Bool). cond b None (Some v)) (unlike (ends e) is) ∙ ap (λ (x : OpenView). Some x) (sym (same ∙ kept_is))) (refused_leads o limits p now v ty e (subst (λ (x : OpenView). IsRefusedStep o limits p x ty e now) kept_is fault))
+      (ap (λ (b : Bool). cond b None (Some v)) (unlike (ends e) is) ∙ ap (λ (x : OpenView). Some x) (sym same)) (refused_leads o limits p now v ty e fault)
 
   pub ends_answered : (given : Result Reply Refusal) → stays_open (closes ty) given ≡ false
-      → IfOk given (λ reply. GoesOnIn o limits p u ty reply now (kept_by ty w)) → IfOk given (Answers None)
+      → IfOk given (λ reply. GoesOnIn o limits p v ty reply now (kept_by ty w)) → IfOk given (Answers None)
   ends_answered (Ok reply) is goes =
-      subst (λ (x : Option OpenView). Answers x reply) (gone w (closes ty) is) (goes_leads o limits p now v ty reply (kept_by ty w) (subst (λ (x : OpenView). GoesOnIn o limits p x ty reply now (kept_by ty w)) kept_is goes))
+      subst (λ (x : Option OpenView). Answers x reply) (gone w (closes ty) is) (goes_leads o limits p now v ty reply (kept_by ty w) goes)
   ends_answered (Err e) is goes = tt
 
   pub ends_refused : (given : Result Reply Refusal) → stays_open (closes ty) given ≡ false
-      → IfErr given (λ e. IsRefusedStep o limits p u ty e now) → IfErr given (Refuses None)
+      → IfErr given (λ e. IsRefusedStep o limits p v ty e now) → IfErr given (Refuses None)
   ends_refused (Ok reply) is fault = tt
   ends_refused (Err e) is fault =
-      subst (λ (x : Option OpenView). Refuses x e) (gone v (ends e) is) (refused_leads o limits p now v ty e (subst (λ (x : OpenView). IsRefusedStep o limits p x ty e now) kept_is fault))
+      subst (λ (x : Option OpenView). Refuses x e) (gone v (ends e) is) (refused_leads o limits p now v ty e fault)
 
 -- ---- texts
 

@@ -35,6 +35,14 @@ type ReadRows = (
     (Items<Row>, Items<ShardRead>),
 );
 
+// What a query outside a transaction is read by: the partition that it tries, its table on that keyspace, and its plan.
+#[derive(Drop)]
+struct PlannedRead<'q, W: World, J: Naming> {
+    partition: &'q Partition<Shard<W, J>>,
+    table: &'q Table,
+    plan: &'q Plan,
+}
+
 // The one part that a query by its key needs.
 fn lone_part<'e, S: Seated + Drop>(
     parts: &'e [ShardReference<S>],
@@ -54,80 +62,71 @@ fn lone_part<'e, S: Seated + Drop>(
 
 impl<W: World + Send + Sync, J: Naming + Send + Sync, G: Gate> Engine<W, J, G> {
     // What the shards of the partition give for the plan; nothing if one of them doesn't serve.
-    // Its caller has found the partition, the table and the plan.
     fn scatter<R: Threads + Wait + Sync>(
         &self,
         rt: &R,
         alloc: Global,
         pass: &mut ShardPass<W, J>,
-        partition: &Partition<Shard<W, J>>,
-        table: &Table,
-        plan: &Plan,
+        read: &PlannedRead<'_, W, J>,
     ) -> Result<Option<Gathered>, AllocError>
-        requires partition { AreOf table.now.keyspace partition.now }
+        requires partition { AreOf read.now.table.now.keyspace read.now.partition.now }
         requires legal { IsLegal (MayFollow W.opening) pass.old.seen }
         ensures gone { HasGone W.opening pass.old pass.new }
-        ensures ok { IfOk result (λ r. IfSome r (λ g. IsScattered W.opening table.now plan.now pass.old (map ⟦<Rows as Operator>⟧.to_come g.pieces.items) g.reads pass.new)) }
-        ensures stalled { IfOk result (λ r. IfNone r (IsHeldUp W.opening table.now plan.now.route answers_queries pass.old.seen pass.new.seen)) }
+        ensures ok { IfOk result (λ r. IfSome r (λ g. IsScattered W.opening read.now.table.now read.now.plan.now pass.old (map ⟦<Rows as Operator>⟧.to_come g.pieces.items) g.reads pass.new)) }
+        ensures stalled { IfOk result (λ r. IfNone r (IsHeldUp W.opening read.now.table.now read.now.plan.now.route answers_queries pass.old.seen pass.new.seen)) }
     {
-        let jobs = jobs(alloc, pass, partition.parts(), table, plan)?;
+        let jobs = jobs(alloc, pass, read.partition.parts(), read.table, read.plan)?;
         let done = read_all(rt, alloc, &self.gate, jobs)?;
         gather(alloc, pass, done)
     }
 
     // What the part's shard gives for the plan, which needs no other by the partition; nothing if it doesn't serve.
-    // Its caller has found the partition, the part, the table and the plan.
     fn ask_alone(
         &self,
         rt: &impl Wait,
         alloc: Global,
         pass: &mut ShardPass<W, J>,
-        partition: &Partition<Shard<W, J>>,
+        read: &PlannedRead<'_, W, J>,
         part: &ShardReference<Shard<W, J>>,
-        table: &Table,
-        plan: &Plan,
     ) -> Result<Option<GatheredAlone>, AllocError>
-        requires partition { AreOf table.now.keyspace partition.now }
-        requires needed { needed table.now plan.now.route partition.now ≡ part.now ∷ [] }
+        requires partition { AreOf read.now.table.now.keyspace read.now.partition.now }
+        requires needed { needed read.now.table.now read.now.plan.now.route read.now.partition.now ≡ part.now ∷ [] }
         requires legal { IsLegal (MayFollow W.opening) pass.old.seen }
         ensures gone { HasGone W.opening pass.old pass.new }
-        ensures ok { IfOk result (λ r. IfSome r (λ g. IsScattered W.opening table.now plan.now pass.old (g.rows ∷ []) g.reads pass.new)) }
-        ensures stalled { IfOk result (λ r. IfNone r (IsHeldUp W.opening table.now plan.now.route answers_queries pass.old.seen pass.new.seen)) }
+        ensures ok { IfOk result (λ r. IfSome r (λ g. IsScattered W.opening read.now.table.now read.now.plan.now pass.old (g.rows ∷ []) g.reads pass.new)) }
+        ensures stalled { IfOk result (λ r. IfNone r (IsHeldUp W.opening read.now.table.now read.now.plan.now.route answers_queries pass.old.seen pass.new.seen)) }
     {
         // its parts are those of a partition
-        let _ = partition.parts();
-        let job = job_for(alloc, pass, 0, part, table, plan)?;
+        let _ = read.partition.parts();
+        let job = job_for(alloc, pass, 0, part, read.table, read.plan)?;
         let done = read_one(rt, alloc, &self.gate, job);
         gather_alone(alloc, pass, done)
     }
 
     // The rows of the plan's query over one shard, which alone it needs by the partition, and what the reply says of it; nothing if that
     // doesn't serve.
-    // Its caller has found the partition, the part, the table and the plan.
     fn answer_alone(
         &self,
         rt: &impl Wait,
         alloc: Global,
         pass: &mut ShardPass<W, J>,
-        partition: &Partition<Shard<W, J>>,
+        read: &PlannedRead<'_, W, J>,
         part: &ShardReference<Shard<W, J>>,
-        table: &Table,
-        plan: &Plan,
     ) -> Result<Option<(Items<Row>, Items<ShardRead>)>, AllocError>
-        requires partition { AreOf table.now.keyspace partition.now }
-        requires needed { needed table.now plan.now.route partition.now ≡ part.now ∷ [] }
-        requires fit { CanJoinAll W.opening table.now plan.now pass.old }
-        requires order { AllInOrder W.opening table.now plan.now pass.old }
+        requires partition { AreOf read.now.table.now.keyspace read.now.partition.now }
+        requires needed { needed read.now.table.now read.now.plan.now.route read.now.partition.now ≡ part.now ∷ [] }
+        requires fit { CanJoinAll W.opening read.now.table.now read.now.plan.now pass.old }
+        requires order { AllInOrder W.opening read.now.table.now read.now.plan.now pass.old }
         requires legal { IsLegal (MayFollow W.opening) pass.old.seen }
         ensures gone { HasGone W.opening pass.old pass.new }
-        ensures ok { IfOk result (λ r. IfSome r (λ x. IsFinished W.opening table.now plan.now pass.old x.0 x.1 pass.new)) }
-        ensures stalled { IfOk result (λ r. IfNone r (IsHeldUp W.opening table.now plan.now.route answers_queries pass.old.seen pass.new.seen)) }
+        ensures ok { IfOk result (λ r. IfSome r (λ x. IsFinished W.opening read.now.table.now read.now.plan.now pass.old x.0 x.1 pass.new)) }
+        ensures stalled { IfOk result (λ r. IfNone r (IsHeldUp W.opening read.now.table.now read.now.plan.now.route answers_queries pass.old.seen pass.new.seen)) }
     {
-        let Some(gathered) = self.ask_alone(rt, alloc, pass, partition, part, table, plan)? else {
+        let Some(gathered) = self.ask_alone(rt, alloc, pass, read, part)? else {
             return Ok(None);
         };
         let GatheredAlone { rows, reads } = gathered;
-        match plan.finish.answer_alone(alloc, rows) {
+        match read.plan.finish.answer_alone(alloc, rows) {
             Ok(answered) => Ok(Some((answered, reads))),
             Err(refused) => {
                 drop(reads);
@@ -138,32 +137,29 @@ impl<W: World + Send + Sync, J: Naming + Send + Sync, G: Gate> Engine<W, J, G> {
 
     // The rows of the plan's query over the shards that it needs by the partition, and what the reply says of these; nothing if one of them
     // doesn't serve.
-    // Its caller has found the partition, the table and the plan.
     fn answer_by<R: Threads + Wait + Sync>(
         &self,
         rt: &R,
         alloc: Global,
         pass: &mut ShardPass<W, J>,
-        partition: &Partition<Shard<W, J>>,
-        table: &Table,
-        plan: &Plan,
+        read: &PlannedRead<'_, W, J>,
     ) -> Result<Option<(Items<Row>, Items<ShardRead>)>, AllocError>
-        requires partition { AreOf table.now.keyspace partition.now }
-        requires fit { CanJoinAll W.opening table.now plan.now pass.old }
-        requires order { AllInOrder W.opening table.now plan.now pass.old }
+        requires partition { AreOf read.now.table.now.keyspace read.now.partition.now }
+        requires fit { CanJoinAll W.opening read.now.table.now read.now.plan.now pass.old }
+        requires order { AllInOrder W.opening read.now.table.now read.now.plan.now pass.old }
         requires legal { IsLegal (MayFollow W.opening) pass.old.seen }
         ensures gone { HasGone W.opening pass.old pass.new }
-        ensures ok { IfOk result (λ r. IfSome r (λ x. IsFinished W.opening table.now plan.now pass.old x.0 x.1 pass.new)) }
-        ensures stalled { IfOk result (λ r. IfNone r (IsHeldUp W.opening table.now plan.now.route answers_queries pass.old.seen pass.new.seen)) }
+        ensures ok { IfOk result (λ r. IfSome r (λ x. IsFinished W.opening read.now.table.now read.now.plan.now pass.old x.0 x.1 pass.new)) }
+        ensures stalled { IfOk result (λ r. IfNone r (IsHeldUp W.opening read.now.table.now read.now.plan.now.route answers_queries pass.old.seen pass.new.seen)) }
     {
-        if let Some(part) = lone_part(partition.parts(), table, &plan.route) {
-            return self.answer_alone(rt, alloc, pass, partition, part, table, plan);
+        if let Some(part) = lone_part(read.partition.parts(), read.table, &read.plan.route) {
+            return self.answer_alone(rt, alloc, pass, read, part);
         }
-        let Some(gathered) = self.scatter(rt, alloc, pass, partition, table, plan)? else {
+        let Some(gathered) = self.scatter(rt, alloc, pass, read)? else {
             return Ok(None);
         };
         let Gathered { pieces, reads } = gathered;
-        match plan.finish.answer_in_order(alloc, pieces) {
+        match read.plan.finish.answer_in_order(alloc, pieces) {
             Ok(rows) => Ok(Some((rows, reads))),
             Err(refused) => {
                 drop(reads);
@@ -194,7 +190,12 @@ impl<W: World + Send + Sync, J: Naming + Send + Sync, G: Gate> Engine<W, J, G> {
         let mut attempt = None;
         for _ in rt.forever() {
             let partition = self.partition_to_try(&attempt, table.keyspace);
-            if let Some(answered) = self.answer_by(rt, alloc, pass, partition, table, plan)? {
+            let read = PlannedRead {
+                partition,
+                table,
+                plan,
+            };
+            if let Some(answered) = self.answer_by(rt, alloc, pass, &read)? {
                 return Ok(answered);
             }
             attempt = Some(self.next_attempt(rt, attempt, table.keyspace)?);

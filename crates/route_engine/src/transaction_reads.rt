@@ -1,27 +1,25 @@
 //! The queries of an open transaction, and the choice between them and its writes.
-ghost use Rattle.std.specs.Prelude.{◌≡◌, ◌⊎◌, ◌<◌, ◌≤◌, ℕ, Some, None, IsSome, IfOk, IfErr, IfSome, IfNone, OnErr, Ok, true, false, length};
+ghost use Rattle.std.specs.Prelude.{◌≡◌, ◌⊎◌, ◌<◌, ◌≤◌, Some, None, IfOk, IfErr, IfSome, IfNone, OnErr, Ok, true, false, length};
 ghost use Rattle.sql_tree.specs.declared.Statement.{Statement};
 ghost use Rattle.vschema.specs.Sources.{SourcesThere, JoinsInPlace};
 ghost use Rattle.vschema.specs.TypedStatement.{typed_statement};
 ghost use Rattle.planner.specs.Routes.{table_at, route_of};
-ghost use Rattle.journal.specs.Runs.{IsLegal, NumbersBelow};
-ghost use Rattle.vschema.specs.WellFormed.{is_vschema};
-ghost use Rattle.shard_run.specs.Openings.{IsOpening};
 ghost use Rattle.serving.specs.Partitions.{IsPartition, AreOf};
-ghost use Rattle.shard_law.specs.Entries.{MayFollow, commit_of};
 ghost use Rattle.shard_calls.specs.Answers.{needed};
 ghost use Rattle.shard_calls.specs.Pendings.{IsOf};
 ghost use Rattle.shard_calls.specs.inner.InTransactions.{kept_by, NeedsNoSeat, IsSeatOf, NeedsOther, GoesOnIn, IsRefusedStep};
+ghost use Rattle.route_engine.specs.inner.Pendings.{IsReady};
 
 use crate::engine::Engine;
+use crate::routed::Routed;
 use journal::Naming;
 use operators::ShownRows;
-use planner::{Route, route_of, write_route};
+use planner::route_of;
 use serving::Partition;
-use shard::{Pending, Shard, ShardPass, World, written_table};
+use shard::{Shard, ShardPass, World, written_table};
 use shard_calls::{
-    Answer, Bound, Gate, Reply, Selected, ShardRead, counted, look_at_each, only_needed, read_at,
-    read_first, read_nothing,
+    Answer, Bound, Gate, OpenTx, Reply, Selected, ShardRead, counted, look_at_each, only_needed,
+    read_at, read_first, read_nothing,
 };
 use sql_eval::Narrowed;
 use std::alloc::Global;
@@ -51,16 +49,15 @@ impl<W: World + Send + Sync, J: Naming + Send + Sync, G: Gate> Engine<W, J, G> {
     pub(crate) fn needs_bound(
         &self,
         here: &Bound<W, J>,
-        table: &Table,
-        route: &Route,
+        routed: &Routed<'_>,
     ) -> Result<bool, Refusal>
-        requires keyspace { table.now.keyspace < length self.now.keyspaces }
-        ensures bound { IfOk result (λ b. b ≡ true → IsSeatOf table.now route.now here.now) }
-        ensures none { IfOk result (λ b. b ≡ false → NeedsNoSeat table.now route.now) }
-        ensures err { IfErr result (λ e. (e ≡ Refusal.SeveralShards) × NeedsOther table.now route.now here.now) }
+        requires keyspace { routed.now.table.now.keyspace < length self.now.keyspaces }
+        ensures bound { IfOk result (λ b. b ≡ true → IsSeatOf routed.now.table.now routed.now.route.now here.now) }
+        ensures none { IfOk result (λ b. b ≡ false → NeedsNoSeat routed.now.table.now routed.now.route.now) }
+        ensures err { IfErr result (λ e. (e ≡ Refusal.SeveralShards) × NeedsOther routed.now.table.now routed.now.route.now here.now) }
     {
-        let partition = self.partition_for(here, table);
-        match only_needed(partition.parts(), table, route)? {
+        let partition = self.partition_for(here, routed.table);
+        match only_needed(partition.parts(), routed.table, routed.route)? {
             Some(part) => {
                 if here.is_at(part) {
                     Ok(true)
@@ -77,17 +74,16 @@ impl<W: World + Send + Sync, J: Naming + Send + Sync, G: Gate> Engine<W, J, G> {
     pub(crate) fn first_bound(
         alloc: Global,
         partition: &Partition<Shard<W, J>>,
-        table: &Table,
-        route: &Route,
+        routed: &Routed<'_>,
     ) -> Result<Option<Bound<W, J>>, Refusal>
-        requires home { AreOf table.now.keyspace partition.now }
-        ensures some { IfOk result (λ r. IfSome r (IsSeatOf table.now route.now)) }
-        ensures none { IfOk result (λ r. IfNone r (NeedsNoSeat table.now route.now)) }
+        requires home { AreOf routed.now.table.now.keyspace partition.now }
+        ensures some { IfOk result (λ r. IfSome r (IsSeatOf routed.now.table.now routed.now.route.now)) }
+        ensures none { IfOk result (λ r. IfNone r (NeedsNoSeat routed.now.table.now routed.now.route.now)) }
         ensures partition { IsPartition partition.now }
-        ensures err { IfErr result (λ e. (e ≡ Refusal.OutOfMemory) ⊎ ((e ≡ Refusal.SeveralShards) × (2 ≤ length (needed table.now route.now partition.now)))) }
+        ensures err { IfErr result (λ e. (e ≡ Refusal.OutOfMemory) ⊎ ((e ≡ Refusal.SeveralShards) × (2 ≤ length (needed routed.now.table.now routed.now.route.now partition.now)))) }
     {
-        match only_needed(partition.parts(), table, route)? {
-            Some(part) => Ok(Some(Bound::to_part(alloc, table.keyspace, partition, part)?)),
+        match only_needed(partition.parts(), routed.table, routed.route)? {
+            Some(part) => Ok(Some(Bound::to_part(alloc, routed.table.keyspace, partition, part)?)),
             None => Ok(None),
         }
     }
@@ -99,42 +95,35 @@ impl<W: World + Send + Sync, J: Naming + Send + Sync, G: Gate> Engine<W, J, G> {
         rt: &impl Wait,
         alloc: Global,
         pass: &mut ShardPass<W, J>,
-        bound: &mut Option<Bound<W, J>>,
-        pending: &mut Pending,
+        tx: &mut OpenTx<W, J>,
         query: &Narrowed,
-        table: &Table,
-        route: &Route,
+        routed: &Routed<'_>,
     ) -> Result<(ShownRows, Items<ShardRead>), Refusal>
         requires there { SourcesThere (length W.opening.schema.tables) query.now }
         requires joins { JoinsInPlace W.opening.schema query.now }
-        requires keyspace { table.now.keyspace < length self.now.keyspaces }
-        requires table { table.now ≡ table_at W.opening.schema query.now.table }
-        requires route { route.now ≡ route_of table.now query.now.join query.now.filter }
-        requires session { IsSome pass.old.session }
-        requires opens { IsOpening W.opening }
-        requires formed { is_vschema W.opening.schema ≡ true }
-        requires legal { IsLegal (MayFollow W.opening) pass.old.seen }
-        requires above { (n : ℕ) → pass.old.session ≡ Some n → NumbersBelow commit_of n pass.old.statements pass.old.seen }
-        requires tx { IsOf W.opening (Some (record { bound = bound.old; pending = pending.old })) pass.old }
-        ensures ok { IfOk result (λ r. GoesOnIn W.opening W.limits pass.old (record { bound = bound.old; pending = pending.old }) (Typed.Select query.now)
+        requires keyspace { routed.now.table.now.keyspace < length self.now.keyspaces }
+        requires table { routed.now.table.now ≡ table_at W.opening.schema query.now.table }
+        requires route { routed.now.route.now ≡ route_of routed.now.table.now query.now.join query.now.filter }
+        requires ready { IsReady W.opening pass.old }
+        requires tx { IsOf W.opening (Some tx.old) pass.old }
+        ensures ok { IfOk result (λ r. GoesOnIn W.opening W.limits pass.old tx.old (Typed.Select query.now)
             (record { answer = Answer.Rows (record { table = query.now.table; join = query.now.join; items = query.now.items; qualified = query.now.qualified; rows = r.0 }); reads = r.1 })
-            pass.new (Some (record { bound = bound.new; pending = pending.new }))) }
-        ensures err { IfErr result (λ e. IsRefusedStep W.opening W.limits pass.old (record { bound = bound.old; pending = pending.old }) (Typed.Select query.now) e pass.new) }
-        ensures bound { OnErr result (bound.new ≡ bound.old) }
-        ensures pending { OnErr result (pending.new ≡ pending.old) }
+            pass.new (Some tx.new)) }
+        ensures err { IfErr result (λ e. IsRefusedStep W.opening W.limits pass.old tx.old (Typed.Select query.now) e pass.new) }
+        ensures unchanged { OnErr result (tx.new ≡ tx.old) }
     {
-        match bound {
+        match &tx.bound {
             Some(here) => {
-                if self.needs_bound(here, table, route)? {
-                    read_at(rt, alloc, pass, here, pending, query)
+                if self.needs_bound(here, routed)? {
+                    read_at(rt, alloc, pass, here, &mut tx.pending, query)
                 } else {
                     read_nothing(alloc, query)
                 }
             }
             None => {
-                let partition = self.current(table.keyspace);
-                match Self::first_bound(alloc, partition, table, route) {
-                    Ok(Some(new)) => read_first(rt, alloc, pass, bound, new, pending, query),
+                let partition = self.current(routed.table.keyspace);
+                match Self::first_bound(alloc, partition, routed) {
+                    Ok(Some(new)) => read_first(rt, alloc, pass, tx, new, query),
                     Ok(None) => read_nothing(alloc, query),
                     Err(refusal) => {
                         look_at_each(rt, pass, partition.parts());
@@ -146,68 +135,58 @@ impl<W: World + Send + Sync, J: Naming + Send + Sync, G: Gate> Engine<W, J, G> {
     }
 
     // The rows of a query in a transaction, by its route.
-    // The clauses tell what became of the pass and of both parts of the transaction, which are lent one by one.
     fn rows_in(
         &self,
         rt: &impl Wait,
         alloc: Global,
         pass: &mut ShardPass<W, J>,
-        bound: &mut Option<Bound<W, J>>,
-        pending: &mut Pending,
+        tx: &mut OpenTx<W, J>,
         query: &Narrowed,
     ) -> Result<(ShownRows, Items<ShardRead>), Refusal>
         requires there { SourcesThere (length W.opening.schema.tables) query.now }
         requires joins { JoinsInPlace W.opening.schema query.now }
-        requires session { IsSome pass.old.session }
-        requires opens { IsOpening W.opening }
-        requires formed { is_vschema W.opening.schema ≡ true }
-        requires legal { IsLegal (MayFollow W.opening) pass.old.seen }
-        requires above { (n : ℕ) → pass.old.session ≡ Some n → NumbersBelow commit_of n pass.old.statements pass.old.seen }
-        requires tx { IsOf W.opening (Some (record { bound = bound.old; pending = pending.old })) pass.old }
-        ensures ok { IfOk result (λ r. GoesOnIn W.opening W.limits pass.old (record { bound = bound.old; pending = pending.old }) (Typed.Select query.now)
+        requires ready { IsReady W.opening pass.old }
+        requires tx { IsOf W.opening (Some tx.old) pass.old }
+        ensures ok { IfOk result (λ r. GoesOnIn W.opening W.limits pass.old tx.old (Typed.Select query.now)
             (record { answer = Answer.Rows (record { table = query.now.table; join = query.now.join; items = query.now.items; qualified = query.now.qualified; rows = r.0 }); reads = r.1 })
-            pass.new (Some (record { bound = bound.new; pending = pending.new }))) }
-        ensures err { IfErr result (λ e. IsRefusedStep W.opening W.limits pass.old (record { bound = bound.old; pending = pending.old }) (Typed.Select query.now) e pass.new) }
-        ensures bound { OnErr result (bound.new ≡ bound.old) }
-        ensures pending { OnErr result (pending.new ≡ pending.old) }
+            pass.new (Some tx.new)) }
+        ensures err { IfErr result (λ e. IsRefusedStep W.opening W.limits pass.old tx.old (Typed.Select query.now) e pass.new) }
+        ensures unchanged { OnErr result (tx.new ≡ tx.old) }
     {
         let narrow = query.query();
         let table = &self.schema.tables.as_slice()[narrow.table];
         let route = route_of(alloc, table, narrow.join, &narrow.filter)?;
-        let given = self.rows_by(rt, alloc, pass, bound, pending, query, table, &route);
+        let routed = Routed {
+            table,
+            route: &route,
+        };
+        let given = self.rows_by(rt, alloc, pass, tx, query, &routed);
         drop(route);
         given
     }
 
     /// What a query gives in an open transaction.
-    /// The clauses tell what became of the pass and of both parts of the transaction, which are lent one by one.
     fn select_in(
         &self,
         rt: &impl Wait,
         alloc: Global,
         pass: &mut ShardPass<W, J>,
-        bound: &mut Option<Bound<W, J>>,
-        pending: &mut Pending,
+        tx: &mut OpenTx<W, J>,
         query: Query,
     ) -> Result<Reply, Refusal>
         requires there { SourcesThere (length W.opening.schema.tables) query }
         requires joins { JoinsInPlace W.opening.schema query }
-        requires session { IsSome pass.old.session }
-        requires opens { IsOpening W.opening }
-        requires formed { is_vschema W.opening.schema ≡ true }
-        requires legal { IsLegal (MayFollow W.opening) pass.old.seen }
-        requires above { (n : ℕ) → pass.old.session ≡ Some n → NumbersBelow commit_of n pass.old.statements pass.old.seen }
-        requires tx { IsOf W.opening (Some (record { bound = bound.old; pending = pending.old })) pass.old }
-        ensures ok { IfOk result (λ reply. GoesOnIn W.opening W.limits pass.old (record { bound = bound.old; pending = pending.old }) (Typed.Select query)
-            reply pass.new (Some (record { bound = bound.new; pending = pending.new }))) }
-        ensures err { IfErr result (λ e. IsRefusedStep W.opening W.limits pass.old (record { bound = bound.old; pending = pending.old }) (Typed.Select query) e pass.new) }
-        ensures bound { OnErr result (bound.new ≡ bound.old) }
-        ensures pending { OnErr result (pending.new ≡ pending.old) }
+        requires ready { IsReady W.opening pass.old }
+        requires tx { IsOf W.opening (Some tx.old) pass.old }
+        ensures ok { IfOk result (λ reply. GoesOnIn W.opening W.limits pass.old tx.old (Typed.Select query)
+            reply pass.new (Some tx.new)) }
+        ensures err { IfErr result (λ e. IsRefusedStep W.opening W.limits pass.old tx.old (Typed.Select query) e pass.new) }
+        ensures unchanged { OnErr result (tx.new ≡ tx.old) }
     {
         let table = query.table;
         let join = query.join;
         let narrowed = Narrowed::of(alloc, query)?;
-        let given = self.rows_in(rt, alloc, pass, bound, pending, &narrowed);
+        let given = self.rows_in(rt, alloc, pass, tx, &narrowed);
         let (items, qualified) = narrowed.shown();
         match given {
             Ok((rows, reads)) => Ok(Reply {
@@ -229,35 +208,28 @@ impl<W: World + Send + Sync, J: Naming + Send + Sync, G: Gate> Engine<W, J, G> {
     }
 
     /// A statement of an open transaction. One that is refused leaves what the transaction keeps.
-    /// The clauses tell what became of the pass and of both parts of the transaction, which are lent one by one.
     pub(crate) fn step_in(
         &self,
         rt: &impl Wait,
         alloc: Global,
         pass: &mut ShardPass<W, J>,
-        bound: &mut Option<Bound<W, J>>,
-        pending: &mut Pending,
+        tx: &mut OpenTx<W, J>,
         statement: Typed,
     ) -> Result<Reply, Refusal>
         requires means { (tree : Statement) × (typed_statement W.opening.schema tree ≡ Ok statement) }
-        requires session { IsSome pass.old.session }
-        requires opens { IsOpening W.opening }
-        requires formed { is_vschema W.opening.schema ≡ true }
-        requires legal { IsLegal (MayFollow W.opening) pass.old.seen }
-        requires above { (n : ℕ) → pass.old.session ≡ Some n → NumbersBelow commit_of n pass.old.statements pass.old.seen }
-        requires tx { IsOf W.opening (Some (record { bound = bound.old; pending = pending.old })) pass.old }
-        ensures ok { IfOk result (λ reply. GoesOnIn W.opening W.limits pass.old (record { bound = bound.old; pending = pending.old }) statement
-            reply pass.new (kept_by statement (record { bound = bound.new; pending = pending.new }))) }
-        ensures err { IfErr result (λ e. IsRefusedStep W.opening W.limits pass.old (record { bound = bound.old; pending = pending.old }) statement e pass.new) }
-        ensures bound { OnErr result (bound.new ≡ bound.old) }
-        ensures pending { OnErr result (pending.new ≡ pending.old) }
+        requires ready { IsReady W.opening pass.old }
+        requires tx { IsOf W.opening (Some tx.old) pass.old }
+        ensures ok { IfOk result (λ reply. GoesOnIn W.opening W.limits pass.old tx.old statement
+            reply pass.new (kept_by statement tx.new)) }
+        ensures err { IfErr result (λ e. IsRefusedStep W.opening W.limits pass.old tx.old statement e pass.new) }
+        ensures unchanged { OnErr result (tx.new ≡ tx.old) }
     {
         match statement {
-            Typed::Select(query) => self.select_in(rt, alloc, pass, bound, pending, query),
-            Typed::Write(write) => self.write_in(rt, alloc, pass, bound, pending, write),
+            Typed::Select(query) => self.select_in(rt, alloc, pass, tx, query),
+            Typed::Write(write) => self.write_in(rt, alloc, pass, tx, write),
             Typed::SetNames => Ok(counted(alloc, 0)),
             Typed::Begin => Err(Refusal::NotSupported),
-            Typed::Commit => self.commit_in(rt, alloc, pass, bound, pending),
+            Typed::Commit => self.commit_in(rt, alloc, pass, tx),
             Typed::Rollback => Ok(counted(alloc, 0)),
         }
     }

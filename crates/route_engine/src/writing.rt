@@ -10,14 +10,15 @@ ghost use Rattle.shard_calls.specs.Answers.{HasWritten, MayWriteRefuse};
 ghost use Rattle.shard_calls.specs.inner.Scatter.{tried, IsTried};
 
 use crate::engine::Engine;
+use crate::routed::Routed;
 use journal::Naming;
-use planner::{Route, write_route};
+use planner::write_route;
 use serving::Partition;
 use shard::{CommitOutcome, Shard, ShardPass, World, written_table};
 use shard_calls::{Answer, Gate, Reply, Tried, counted, look_at_each, only_needed, shard_of};
 use std::alloc::Global;
 use std::sync::Wait;
-use vschema::{Table, Write};
+use vschema::Write;
 use vt_value::Refusal;
 
 // The count, or the write again if its shard took no commits.
@@ -35,7 +36,7 @@ fn tried(committed: CommitOutcome) -> Tried
 impl<W: World + Send + Sync, J: Naming + Send + Sync, G: Gate> Engine<W, J, G> {
     // Commits the write on the one shard that it needs by the partition: the count, or the write again if that shard takes no commits.
     // If it needs several, each shard of the partition is looked at.
-    // Its caller has found the partition, the table and the route.
+    // Its caller has found the partition and the route.
     #[inline(always)]
     fn commit(
         &self,
@@ -43,13 +44,12 @@ impl<W: World + Send + Sync, J: Naming + Send + Sync, G: Gate> Engine<W, J, G> {
         alloc: Global,
         pass: &mut ShardPass<W, J>,
         partition: &Partition<Shard<W, J>>,
-        table: &Table,
-        route: &Route,
+        routed: &Routed<'_>,
         write: Write,
     ) -> Result<Tried, Refusal>
-        requires partition { AreOf table.now.keyspace partition.now }
-        requires table { table.now ≡ table_at W.opening.schema (written_table write) }
-        requires route { route.now ≡ write_route W.opening.schema write }
+        requires partition { AreOf routed.now.table.now.keyspace partition.now }
+        requires table { routed.now.table.now ≡ table_at W.opening.schema (written_table write) }
+        requires route { routed.now.route.now ≡ write_route W.opening.schema write }
         requires typed { IsTypedWrite W.opening.schema write }
         requires session { IsSome pass.old.session }
         requires legal { IsLegal (MayFollow W.opening) pass.old.seen }
@@ -57,7 +57,7 @@ impl<W: World + Send + Sync, J: Naming + Send + Sync, G: Gate> Engine<W, J, G> {
         ensures ok { IfOk result (λ c. IsTried W.opening W.limits pass.old write c pass.new) }
         ensures err { IfErr result (λ r. MayWriteRefuse W.opening W.limits pass.old write r pass.new) }
     {
-        match only_needed(partition.parts(), table, route) {
+        match only_needed(partition.parts(), routed.table, routed.route) {
             Ok(Some(part)) => {
                 let shard = shard_of(part);
                 match shard.commit(rt, alloc, pass, &self.schema, write) {
@@ -78,19 +78,17 @@ impl<W: World + Send + Sync, J: Naming + Send + Sync, G: Gate> Engine<W, J, G> {
     }
 
     // Tries a write until it is committed: by the present partition, and where its shard takes no commits by turns at the buffer, where it waits.
-    // Its caller has found table and route.
     fn commit_until(
         &self,
         rt: &impl Wait,
         alloc: Global,
         pass: &mut ShardPass<W, J>,
-        table: &Table,
-        route: &Route,
+        routed: &Routed<'_>,
         write: Write,
     ) -> Result<u64, Refusal>
-        requires keyspace { table.now.keyspace < length self.now.keyspaces }
-        requires table { table.now ≡ table_at W.opening.schema (written_table write) }
-        requires route { route.now ≡ write_route W.opening.schema write }
+        requires keyspace { routed.now.table.now.keyspace < length self.now.keyspaces }
+        requires table { routed.now.table.now ≡ table_at W.opening.schema (written_table write) }
+        requires route { routed.now.route.now ≡ write_route W.opening.schema write }
         requires typed { IsTypedWrite W.opening.schema write }
         requires session { IsSome pass.old.session }
         requires legal { IsLegal (MayFollow W.opening) pass.old.seen }
@@ -101,13 +99,13 @@ impl<W: World + Send + Sync, J: Naming + Send + Sync, G: Gate> Engine<W, J, G> {
         let mut write = write;
         let mut attempt = None;
         for _ in rt.forever() {
-            let partition = self.partition_to_try(&attempt, table.keyspace);
-            match self.commit(rt, alloc, pass, partition, table, route, write) {
+            let partition = self.partition_to_try(&attempt, routed.table.keyspace);
+            match self.commit(rt, alloc, pass, partition, routed, write) {
                 Ok(Tried::Done(count)) => return Ok(count),
                 Ok(Tried::Again(again)) => write = again,
                 Err(refusal) => return Err(refusal),
             }
-            match self.next_attempt(rt, attempt, table.keyspace) {
+            match self.next_attempt(rt, attempt, routed.table.keyspace) {
                 Ok(next) => attempt = Some(next),
                 Err(refusal) => {
                     drop(write);
@@ -138,7 +136,11 @@ impl<W: World + Send + Sync, J: Naming + Send + Sync, G: Gate> Engine<W, J, G> {
         let table = &self.schema.tables.as_slice()[written_table(&write)];
         match write_route(alloc, &self.schema, &write) {
             Ok(route) => {
-                let count = self.commit_until(rt, alloc, pass, table, &route, write);
+                let routed = Routed {
+                    table,
+                    route: &route,
+                };
+                let count = self.commit_until(rt, alloc, pass, &routed, write);
                 drop(route);
                 Ok(counted(alloc, count?))
             }

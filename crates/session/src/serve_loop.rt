@@ -25,6 +25,14 @@ use std::thread::Threads;
 /// How many bytes are asked of a source at once.
 const PIECE: usize = 1 << 16;
 
+/// What runs a connection's statements: the runtime, the memory and the engine.
+#[derive(Drop)]
+struct Runner<'c, W: World, J: Naming, G: Gate, T> {
+    rt: &'c T,
+    alloc: Global,
+    engine: &'c Engine<W, J, G>,
+}
+
 /// A buffer for the pieces of the input. Refuses only if there is no memory.
 fn piece_buffer(alloc: Global) -> Result<Vec<u8>, SessionFault>
     ensures room { IfOk result (λ bytes. 0 < vec_len bytes) }
@@ -49,93 +57,95 @@ fn read_piece<R: Source>(source: &mut R, buffer: &mut [u8]) -> Result<usize, Ses
     }
 }
 
-/// Reads one piece of the input, and answers the payloads that it completes, or ends the session with the input. A session that is new
-/// greets its client before.
-/// The clauses tell what became of the pass and of both devices, which are lent one by one.
-fn serve_piece<W: World + Send + Sync, J: Naming + Send + Sync, G: Gate, R: Source, S: Sink>(
-    rt: &(impl Threads + Wait + Sync),
-    alloc: Global,
-    engine: &Engine<W, J, G>,
-    pass: &mut ShardPass<W, J>,
-    core: &mut Core<W, J>,
-    buffer: &mut [u8],
-    source: &mut R,
-    sink: &mut S,
-) -> Result<Option<End>, SessionFault>
-    requires room { 0 < length buffer.old }
-    requires open_session { end_of core.old.connection_state ≡ None }
-    requires session { IsSome pass.old.session }
-    requires tx { IsOf W.opening core.old.tx pass.old }
-    ensures talk { IfOk result (λ end. (begin : ConnectionState) (first s : PassAndTransaction) (bytes out : List ℕ) → IsKept W.opening pass.old core.old.tx s
-        → HasTalked (context_of W.opening core.old.handshake) (Means W.opening W.limits) begin core.old first bytes out s →
-        (read : List ℕ) × (written : List ℕ)
-        × Consumes (R.unread source.old) (R.unread source.new) read × Appends (S.taken sink.old) (S.taken sink.new) written
-        × ((now : PassAndTransaction) × IsKept W.opening pass.new core.new.tx now
-        × HasTalkedOn (context_of W.opening core.old.handshake) (Means W.opening W.limits) begin core.new first (bytes ++ read) (out ++ written) end now)) }
-    ensures at_end { IfOk result (λ end. IfSome end (λ e. IsByInput e → IsAtEnd (R.unread source.new))) }
-    ensures read { result ≡ Err SessionFault.Read → Keeps (R.unread source.old) (R.unread source.new) × (sink.new ≡ sink.old) × (pass.new ≡ pass.old)
-        × (core.new.tx ≡ core.old.tx) }
-    ensures memory { result ≡ Err SessionFault.Memory → ((piece : List ℕ) × Consumes (R.unread source.old) (R.unread source.new) piece)
-        × (sink.new ≡ sink.old) × (pass.new ≡ pass.old) × (core.new.tx ≡ core.old.tx) }
-    ensures write { result ≡ Err SessionFault.Write → (begin : ConnectionState) (first s : PassAndTransaction) (bytes out : List ℕ) → IsKept W.opening pass.old core.old.tx s
-        → HasTalked (context_of W.opening core.old.handshake) (Means W.opening W.limits) begin core.old first bytes out s →
-        (read : List ℕ) × (written : List ℕ)
-        × Consumes (R.unread source.old) (R.unread source.new) read × Appends (S.taken sink.old) (S.taken sink.new) written
-        × ((now : PassAndTransaction) × IsKept W.opening pass.new core.new.tx now
-        × HasBrokenOff core.old.framing.limit (context_of W.opening core.old.handshake) (Means W.opening W.limits) begin first (bytes ++ read) (out ++ written) now) }
-    ensures tx { IsOf W.opening core.new.tx pass.new }
-    ensures source_count { R.failures source.new ≡ read_failures_after result (R.failures source.old) }
-    ensures sink_count { S.failures sink.new ≡ write_failures_after result (S.failures sink.old) }
-    ensures next { IsStateAfter core.old core.new }
-    ensures session { pass.new.session ≡ pass.old.session }
-{
-    if is_new(core.connection_state()) {
-        return core.feed(rt, alloc, engine, pass, &[], sink);
-    }
-    let n = read_piece(source, buffer)?;
-    if n == 0 {
-        return Ok(Some(core.end_of_input()));
-    }
-    core.feed(rt, alloc, engine, pass, &buffer[..n], sink)
-}
-
-/// Serves the connection of a session that is new, until it ends.
-/// The clauses tell what became of the pass and of both devices, which are lent one by one.
-fn serve_on<W: World + Send + Sync, J: Naming + Send + Sync, G: Gate, R: Source, S: Sink>(
-    rt: &(impl Threads + Wait + Sync),
-    alloc: Global,
-    engine: &Engine<W, J, G>,
-    pass: &mut ShardPass<W, J>,
-    core: &mut Core<W, J>,
-    buffer: &mut [u8],
-    source: &mut R,
-    sink: &mut S,
-) -> Result<End, SessionFault>
-    requires session { IsSome pass.old.session }
-    requires room { 0 < length buffer.old }
-    requires limit { core.old.framing.limit ≡ COMMAND_LIMIT }
-    requires open_session { end_of core.old.connection_state ≡ None }
-    requires none_open { core.old.tx ≡ None }
-    requires begins { (o : Opening) (l : Limits) (s : PassAndTransaction) → HasTalked (context_of o core.old.handshake) (Means o l) ConnectionState.New core.old s [] [] s }
-    ensures talk { HasTalkedWhole W.opening W.limits core.old.handshake pass.old pass.new (R.unread source.old) (R.unread source.new) (S.taken sink.old) (S.taken sink.new) result }
-    ensures alone { HasTalkedAlone W.opening W.limits core.old.handshake pass.old pass.new (R.unread source.old) (R.unread source.new) (S.taken sink.old) (S.taken sink.new) result }
-    ensures at_end { IfOk result (λ end. IsByInput end → IsAtEnd (R.unread source.new)) }
-    ensures read { HasStoppedReading W.opening W.limits core.old.handshake pass.old pass.new (R.unread source.old) (R.unread source.new) (S.taken sink.old) (S.taken sink.new) result }
-    ensures memory { HasStoppedForMemory W.opening W.limits core.old.handshake pass.old pass.new (R.unread source.old) (R.unread source.new) (S.taken sink.old) (S.taken sink.new) result }
-    ensures write { HasStoppedWriting W.opening W.limits core.old.handshake pass.old pass.new (R.unread source.old) (R.unread source.new) (S.taken sink.old) (S.taken sink.new) result }
-    ensures source_count { R.failures source.new ≡ read_failures_after result (R.failures source.old) }
-    ensures sink_count { S.failures sink.new ≡ write_failures_after result (S.failures sink.old) }
-    ensures session { pass.new.session ≡ pass.old.session }
-{
-    begins_with(engine, pass);
-    for _ in rt.forever() {
-        match serve_piece(rt, alloc, engine, pass, core, buffer, source, sink) {
-            Ok(None) => {}
-            Ok(Some(end)) => return Ok(end),
-            Err(fault) => return Err(fault),
+impl<W: World + Send + Sync, J: Naming + Send + Sync, G: Gate, T: Threads + Wait + Sync> Runner<
+    '_,
+    W,
+    J,
+    G,
+    T,
+> {
+    /// Reads one piece of the input, and answers the payloads that it completes, or ends the session with the input. A session that is new
+    /// greets its client before.
+    fn serve_piece<R: Source, S: Sink>(
+        &self,
+        pass: &mut ShardPass<W, J>,
+        core: &mut Core<W, J>,
+        buffer: &mut [u8],
+        source: &mut R,
+        sink: &mut S,
+    ) -> Result<Option<End>, SessionFault>
+        requires room { 0 < length buffer.old }
+        requires open_session { end_of core.old.connection_state ≡ None }
+        requires session { IsSome pass.old.session }
+        requires tx { IsOf W.opening core.old.tx pass.old }
+        ensures talk { IfOk result (λ end. (begin : ConnectionState) (first s : PassAndTransaction) (bytes out : List ℕ) → IsKept W.opening pass.old core.old.tx s
+            → HasTalked (context_of W.opening core.old.handshake) (Means W.opening W.limits) begin core.old first bytes out s →
+            (read : List ℕ) × (written : List ℕ)
+            × Consumes (R.unread source.old) (R.unread source.new) read × Appends (S.taken sink.old) (S.taken sink.new) written
+            × ((now : PassAndTransaction) × IsKept W.opening pass.new core.new.tx now
+            × HasTalkedOn (context_of W.opening core.old.handshake) (Means W.opening W.limits) begin core.new first (bytes ++ read) (out ++ written) end now)) }
+        ensures at_end { IfOk result (λ end. IfSome end (λ e. IsByInput e → IsAtEnd (R.unread source.new))) }
+        ensures read { result ≡ Err SessionFault.Read → Keeps (R.unread source.old) (R.unread source.new) × (sink.new ≡ sink.old) × (pass.new ≡ pass.old)
+            × (core.new.tx ≡ core.old.tx) }
+        ensures memory { result ≡ Err SessionFault.Memory → ((piece : List ℕ) × Consumes (R.unread source.old) (R.unread source.new) piece)
+            × (sink.new ≡ sink.old) × (pass.new ≡ pass.old) × (core.new.tx ≡ core.old.tx) }
+        ensures write { result ≡ Err SessionFault.Write → (begin : ConnectionState) (first s : PassAndTransaction) (bytes out : List ℕ) → IsKept W.opening pass.old core.old.tx s
+            → HasTalked (context_of W.opening core.old.handshake) (Means W.opening W.limits) begin core.old first bytes out s →
+            (read : List ℕ) × (written : List ℕ)
+            × Consumes (R.unread source.old) (R.unread source.new) read × Appends (S.taken sink.old) (S.taken sink.new) written
+            × ((now : PassAndTransaction) × IsKept W.opening pass.new core.new.tx now
+            × HasBrokenOff core.old.framing.limit (context_of W.opening core.old.handshake) (Means W.opening W.limits) begin first (bytes ++ read) (out ++ written) now) }
+        ensures tx { IsOf W.opening core.new.tx pass.new }
+        ensures source_count { R.failures source.new ≡ read_failures_after result (R.failures source.old) }
+        ensures sink_count { S.failures sink.new ≡ write_failures_after result (S.failures sink.old) }
+        ensures next { IsStateAfter core.old core.new }
+        ensures session { pass.new.session ≡ pass.old.session }
+    {
+        if is_new(core.connection_state()) {
+            return core.feed(self.rt, self.alloc, self.engine, pass, &[], sink);
         }
+        let n = read_piece(source, buffer)?;
+        if n == 0 {
+            return Ok(Some(core.end_of_input()));
+        }
+        core.feed(self.rt, self.alloc, self.engine, pass, &buffer[..n], sink)
     }
-    unreachable!()
+
+    /// Serves the connection of a session that is new, until it ends.
+    fn serve_on<R: Source, S: Sink>(
+        &self,
+        pass: &mut ShardPass<W, J>,
+        core: &mut Core<W, J>,
+        buffer: &mut [u8],
+        source: &mut R,
+        sink: &mut S,
+    ) -> Result<End, SessionFault>
+        requires session { IsSome pass.old.session }
+        requires room { 0 < length buffer.old }
+        requires limit { core.old.framing.limit ≡ COMMAND_LIMIT }
+        requires open_session { end_of core.old.connection_state ≡ None }
+        requires none_open { core.old.tx ≡ None }
+        requires begins { (o : Opening) (l : Limits) (s : PassAndTransaction) → HasTalked (context_of o core.old.handshake) (Means o l) ConnectionState.New core.old s [] [] s }
+        ensures talk { HasTalkedWhole W.opening W.limits core.old.handshake pass.old pass.new (R.unread source.old) (R.unread source.new) (S.taken sink.old) (S.taken sink.new) result }
+        ensures alone { HasTalkedAlone W.opening W.limits core.old.handshake pass.old pass.new (R.unread source.old) (R.unread source.new) (S.taken sink.old) (S.taken sink.new) result }
+        ensures at_end { IfOk result (λ end. IsByInput end → IsAtEnd (R.unread source.new)) }
+        ensures read { HasStoppedReading W.opening W.limits core.old.handshake pass.old pass.new (R.unread source.old) (R.unread source.new) (S.taken sink.old) (S.taken sink.new) result }
+        ensures memory { HasStoppedForMemory W.opening W.limits core.old.handshake pass.old pass.new (R.unread source.old) (R.unread source.new) (S.taken sink.old) (S.taken sink.new) result }
+        ensures write { HasStoppedWriting W.opening W.limits core.old.handshake pass.old pass.new (R.unread source.old) (R.unread source.new) (S.taken sink.old) (S.taken sink.new) result }
+        ensures source_count { R.failures source.new ≡ read_failures_after result (R.failures source.old) }
+        ensures sink_count { S.failures sink.new ≡ write_failures_after result (S.failures sink.old) }
+        ensures session { pass.new.session ≡ pass.old.session }
+    {
+        begins_with(self.engine, pass);
+        for _ in self.rt.forever() {
+            match self.serve_piece(pass, core, buffer, source, sink) {
+                Ok(None) => {}
+                Ok(Some(end)) => return Ok(end),
+                Err(fault) => return Err(fault),
+            }
+        }
+        unreachable!()
+    }
 }
 
 /// A session that is new. Refuses only if there is no memory.
@@ -199,14 +209,6 @@ pub fn serve<W: World + Send + Sync, J: Naming + Send + Sync, G: Gate, R: Source
 {
     let mut buffer = piece_buffer(alloc)?;
     let mut core = begin(alloc, access, salt, id)?;
-    serve_on(
-        rt,
-        alloc,
-        engine,
-        pass,
-        &mut core,
-        &mut buffer,
-        source,
-        sink,
-    )
+    let runner = Runner { rt, alloc, engine };
+    runner.serve_on(pass, &mut core, &mut buffer, source, sink)
 }

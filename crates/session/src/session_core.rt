@@ -1,5 +1,5 @@
 //! A session without its devices: what it knows, and what it writes for a piece of the input. The loop above it only moves bytes.
-ghost use Rattle.std.specs.Prelude.{◌≡◌, ℕ, ◌+◌, ◌≤◌, true, false, List, [], None, length, Err, IsSome, IfSome, IfOk, IfErr, ◌⊎◌};
+ghost use Rattle.std.specs.Prelude.{◌≡◌, ℕ, ◌+◌, ◌≤◌, true, false, List, [], None, length, Err, IsSome, IfSome, IfErr, OnOk, ◌⊎◌};
 ghost use Rattle.std.specs.Io.KnownBytes.{Appends};
 ghost use Rattle.mysql_packet.specs.declared.framer.Fed.{Fed};
 ghost use Rattle.mysql_packet.specs.Frames.{packet};
@@ -18,8 +18,8 @@ ghost use Rattle.conversation.specs.inner.Sessions.{FedBy, one_command};
 
 use bytes::BytesMut;
 use conversation::{
-    Access, ConnectionState, End, Handshake, Phase, REPLY_ROOM, SessionFault, Settings, Sink,
-    answer_command, answer_fed, end_of, is_in_commands,
+    Access, ConnectionState, End, Handshake, Phase, REPLY_ROOM, ReplyState, Responder,
+    SessionFault, Settings, Sink, end_of, is_in_commands,
 };
 use journal::Naming;
 use mysql_packet::Framer;
@@ -98,98 +98,93 @@ fn whole_command<'p>(
     }
 }
 
-/// The replies to a piece of the input as its framer cuts it, and the session's state after it. Few pieces come to it, and it has large values
-/// of its own.
-/// The clauses tell what became of the pass, the transaction and the bytes, which are lent one by one.
-#[inline(never)]
-fn feed_framed<W: World + Send + Sync, J: Naming + Send + Sync, G: Gate, S: Sink>(
-    rt: &(impl Threads + Wait + Sync),
-    alloc: Global,
-    engine: &Engine<W, J, G>,
-    pass: &mut ShardPass<W, J>,
-    tx: &mut Tx<W, J>,
-    handshake: &Handshake,
-    begin: ConnectionState,
-    piece: &[u8],
-    framer: &mut Framer,
-    reply: &mut BytesMut,
-    sink: &mut S,
-) -> Result<ConnectionState, SessionFault>
-    requires room { REPLY_ROOM ≤ length reply.old.items + reply.old.spare }
-    requires session { IsSome pass.old.session }
-    requires tx { IsOf W.opening tx.old pass.old }
-    requires open_session { end_of begin ≡ None }
-    ensures answers { IfOk result (λ connection_state. (fed : Fed) × FedBy framer.old framer.new piece.now fed × ((out : List ℕ)
-        × Appends (S.taken sink.old) (S.taken sink.new) out × LeadsKept W.opening pass.old tx.old pass.new tx.new
-        (λ s now. AnswersFed (context_of W.opening handshake.now) (Means W.opening W.limits) begin s fed out connection_state now))) }
-    ensures write { result ≡ Err SessionFault.Write → (fed : Fed) × FedBy framer.old framer.new piece.now fed × ((written : List ℕ)
-        × Appends (S.taken sink.old) (S.taken sink.new) written × LeadsKept W.opening pass.old tx.old pass.new tx.new
-        (λ s now. IsCutOff (context_of W.opening handshake.now) (Means W.opening W.limits) begin s fed written now)) }
-    ensures memory { result ≡ Err SessionFault.Memory → (pass.new ≡ pass.old) × (tx.new ≡ tx.old) × (sink.new ≡ sink.old) × (framer.new ≡ framer.old) }
-    ensures count { S.failures sink.new ≡ write_failures_after result (S.failures sink.old) }
-    ensures limit { framer.new.limit ≡ framer.old.limit }
-    ensures room { REPLY_ROOM ≤ length reply.new.items + reply.new.spare }
-    ensures cause { IfErr result (λ e. (e ≡ SessionFault.Memory) ⊎ (e ≡ SessionFault.Write)) }
-    ensures tx { IsOf W.opening tx.new pass.new }
-    ensures session { pass.new.session ≡ pass.old.session }
-{
-    let Ok(fed) = framer.feed(piece) else {
-        return Err(SessionFault::Memory);
-    };
-    match answer_fed(
-        rt, alloc, engine, pass, tx, handshake, begin, &fed, reply, sink,
-    ) {
-        Ok(connection_state) => Ok(connection_state),
-        Err(_) => Err(SessionFault::Write),
-    }
+/// What a session keeps from one piece of its input to the next, but for what its client was greeted with.
+#[derive(Drop)]
+struct CoreState<W: World, J: Naming> {
+    framer: Framer,
+    connection_state: ConnectionState,
+    replies: ReplyState<W, J>,
 }
 
-/// The replies to a piece of the input, and the session's state after it.
-/// The clauses tell what became of the pass, the transaction and the bytes, which are lent one by one.
-fn feed_parts<W: World + Send + Sync, J: Naming + Send + Sync, G: Gate, S: Sink>(
-    rt: &(impl Threads + Wait + Sync),
-    alloc: Global,
-    engine: &Engine<W, J, G>,
-    pass: &mut ShardPass<W, J>,
-    tx: &mut Tx<W, J>,
-    handshake: &Handshake,
-    begin: ConnectionState,
-    piece: &[u8],
-    framer: &mut Framer,
-    reply: &mut BytesMut,
-    sink: &mut S,
-) -> Result<ConnectionState, SessionFault>
-    requires limit { framer.old.limit ≡ COMMAND_LIMIT }
-    requires room { REPLY_ROOM ≤ length reply.old.items + reply.old.spare }
-    requires session { IsSome pass.old.session }
-    requires tx { IsOf W.opening tx.old pass.old }
-    requires open_session { end_of begin ≡ None }
-    ensures answers { IfOk result (λ connection_state. (fed : Fed) × FedBy framer.old framer.new piece.now fed × ((out : List ℕ)
-        × Appends (S.taken sink.old) (S.taken sink.new) out × LeadsKept W.opening pass.old tx.old pass.new tx.new
-        (λ s now. AnswersFed (context_of W.opening handshake.now) (Means W.opening W.limits) begin s fed out connection_state now))) }
-    ensures write { result ≡ Err SessionFault.Write → (fed : Fed) × FedBy framer.old framer.new piece.now fed × ((written : List ℕ)
-        × Appends (S.taken sink.old) (S.taken sink.new) written × LeadsKept W.opening pass.old tx.old pass.new tx.new
-        (λ s now. IsCutOff (context_of W.opening handshake.now) (Means W.opening W.limits) begin s fed written now)) }
-    ensures memory { result ≡ Err SessionFault.Memory → (pass.new ≡ pass.old) × (tx.new ≡ tx.old) × (sink.new ≡ sink.old) × (framer.new ≡ framer.old) }
-    ensures count { S.failures sink.new ≡ write_failures_after result (S.failures sink.old) }
-    ensures limit { framer.new.limit ≡ framer.old.limit }
-    ensures room { REPLY_ROOM ≤ length reply.new.items + reply.new.spare }
-    ensures cause { IfErr result (λ e. (e ≡ SessionFault.Memory) ⊎ (e ≡ SessionFault.Write)) }
-    ensures tx { IsOf W.opening tx.new pass.new }
-    ensures session { pass.new.session ≡ pass.old.session }
-{
-    match whole_command(begin, framer, piece) {
-        Some((settings, command)) => {
-            match answer_command(
-                rt, alloc, engine, pass, tx, handshake, settings, command, reply, sink,
-            ) {
-                Ok(connection_state) => Ok(connection_state),
-                Err(_) => Err(SessionFault::Write),
+impl<W: World + Send + Sync, J: Naming + Send + Sync> CoreState<W, J> {
+    /// Writes the replies to a piece of the input as its framer cuts it. Few pieces come to it, and it has large values of its own.
+    #[inline(never)]
+    fn feed_framed<G: Gate, R: Threads + Wait + Sync, S: Sink>(
+        &mut self,
+        responder: &Responder<'_, W, J, G, R>,
+        pass: &mut ShardPass<W, J>,
+        piece: &[u8],
+        sink: &mut S,
+    ) -> Result<(), SessionFault>
+        requires room { REPLY_ROOM ≤ length self.old.replies.reply.items + self.old.replies.reply.spare }
+        requires session { IsSome pass.old.session }
+        requires tx { IsOf W.opening self.old.replies.tx pass.old }
+        requires open_session { end_of self.old.connection_state ≡ None }
+        ensures answers { OnOk result ((fed : Fed) × FedBy self.old.framer self.new.framer piece.now fed × ((out : List ℕ)
+            × Appends (S.taken sink.old) (S.taken sink.new) out × LeadsKept W.opening pass.old self.old.replies.tx pass.new self.new.replies.tx
+            (λ s now. AnswersFed (context_of W.opening responder.now.handshake.now) (Means W.opening W.limits) self.old.connection_state s fed out self.new.connection_state now))) }
+        ensures write { result ≡ Err SessionFault.Write → (fed : Fed) × FedBy self.old.framer self.new.framer piece.now fed × ((written : List ℕ)
+            × Appends (S.taken sink.old) (S.taken sink.new) written × LeadsKept W.opening pass.old self.old.replies.tx pass.new self.new.replies.tx
+            (λ s now. IsCutOff (context_of W.opening responder.now.handshake.now) (Means W.opening W.limits) self.old.connection_state s fed written now)) }
+        ensures memory { result ≡ Err SessionFault.Memory → (pass.new ≡ pass.old) × (self.new.replies.tx ≡ self.old.replies.tx) × (sink.new ≡ sink.old) × (self.new.framer ≡ self.old.framer) }
+        ensures count { S.failures sink.new ≡ write_failures_after result (S.failures sink.old) }
+        ensures limit { self.new.framer.limit ≡ self.old.framer.limit }
+        ensures room { REPLY_ROOM ≤ length self.new.replies.reply.items + self.new.replies.reply.spare }
+        ensures cause { IfErr result (λ e. (e ≡ SessionFault.Memory) ⊎ (e ≡ SessionFault.Write)) }
+        ensures tx { IsOf W.opening self.new.replies.tx pass.new }
+        ensures session { pass.new.session ≡ pass.old.session }
+    {
+        let Ok(fed) = self.framer.feed(piece) else {
+            return Err(SessionFault::Memory);
+        };
+        match responder.answer_fed(pass, &mut self.replies, self.connection_state, &fed, sink) {
+            Ok(connection_state) => {
+                self.connection_state = connection_state;
+                Ok(())
             }
+            Err(_) => Err(SessionFault::Write),
         }
-        None => feed_framed(
-            rt, alloc, engine, pass, tx, handshake, begin, piece, framer, reply, sink,
-        ),
+    }
+
+    /// Writes the replies to a piece of the input.
+    fn answer_piece<G: Gate, R: Threads + Wait + Sync, S: Sink>(
+        &mut self,
+        responder: &Responder<'_, W, J, G, R>,
+        pass: &mut ShardPass<W, J>,
+        piece: &[u8],
+        sink: &mut S,
+    ) -> Result<(), SessionFault>
+        requires limit { self.old.framer.limit ≡ COMMAND_LIMIT }
+        requires room { REPLY_ROOM ≤ length self.old.replies.reply.items + self.old.replies.reply.spare }
+        requires session { IsSome pass.old.session }
+        requires tx { IsOf W.opening self.old.replies.tx pass.old }
+        requires open_session { end_of self.old.connection_state ≡ None }
+        ensures answers { OnOk result ((fed : Fed) × FedBy self.old.framer self.new.framer piece.now fed × ((out : List ℕ)
+            × Appends (S.taken sink.old) (S.taken sink.new) out × LeadsKept W.opening pass.old self.old.replies.tx pass.new self.new.replies.tx
+            (λ s now. AnswersFed (context_of W.opening responder.now.handshake.now) (Means W.opening W.limits) self.old.connection_state s fed out self.new.connection_state now))) }
+        ensures write { result ≡ Err SessionFault.Write → (fed : Fed) × FedBy self.old.framer self.new.framer piece.now fed × ((written : List ℕ)
+            × Appends (S.taken sink.old) (S.taken sink.new) written × LeadsKept W.opening pass.old self.old.replies.tx pass.new self.new.replies.tx
+            (λ s now. IsCutOff (context_of W.opening responder.now.handshake.now) (Means W.opening W.limits) self.old.connection_state s fed written now)) }
+        ensures memory { result ≡ Err SessionFault.Memory → (pass.new ≡ pass.old) × (self.new.replies.tx ≡ self.old.replies.tx) × (sink.new ≡ sink.old) × (self.new.framer ≡ self.old.framer) }
+        ensures count { S.failures sink.new ≡ write_failures_after result (S.failures sink.old) }
+        ensures limit { self.new.framer.limit ≡ self.old.framer.limit }
+        ensures room { REPLY_ROOM ≤ length self.new.replies.reply.items + self.new.replies.reply.spare }
+        ensures cause { IfErr result (λ e. (e ≡ SessionFault.Memory) ⊎ (e ≡ SessionFault.Write)) }
+        ensures tx { IsOf W.opening self.new.replies.tx pass.new }
+        ensures session { pass.new.session ≡ pass.old.session }
+    {
+        match whole_command(self.connection_state, &self.framer, piece) {
+            Some((settings, command)) => {
+                match responder.answer_command(pass, &mut self.replies, settings, command, sink) {
+                    Ok(connection_state) => {
+                        self.connection_state = connection_state;
+                        Ok(())
+                    }
+                    Err(_) => Err(SessionFault::Write),
+                }
+            }
+            None => self.feed_framed(responder, pass, piece, sink),
+        }
     }
 }
 
@@ -197,11 +192,8 @@ fn feed_parts<W: World + Send + Sync, J: Naming + Send + Sync, G: Gate, S: Sink>
 /// see what it knows of its input, its state, and what it keeps of its transaction.
 #[derive(Drop)]
 pub struct Core<W: World, J: Naming> {
-    framer: Framer,
-    reply: BytesMut,
-    connection_state: ConnectionState,
+    state: CoreState<W, J>,
     handshake: Handshake,
-    tx: Tx<W, J>,
 }
 
 impl<W: World, J: Naming> Model for Core<W, J> {
@@ -216,10 +208,10 @@ impl<W: World, J: Naming> Model for Core<W, J> {
 
     ghost coded = { Prim.hlevel (codes, write.the_row.coded) };
 
-    ghost view = { λ c. record { handshake = c.handshake; framing = c.framer; connection_state = c.connection_state; tx = c.tx } };
+    ghost view = { λ c. record { handshake = c.handshake; framing = c.state.framer; connection_state = c.state.connection_state; tx = c.state.replies.tx } };
 
     // The refusal of a payload always has room, and no command is longer than the limit.
-    ghost invariant = { λ c. (REPLY_ROOM ≤ length c.reply.items + c.reply.spare) × (c.framer.limit ≡ COMMAND_LIMIT) };
+    ghost invariant = { λ c. (REPLY_ROOM ≤ length c.state.replies.reply.items + c.state.replies.reply.spare) × (c.state.framer.limit ≡ COMMAND_LIMIT) };
 }
 
 fn end_between(is_between_payloads: bool, is_let_in: bool) -> End
@@ -266,15 +258,19 @@ impl<W: World, J: Naming> Core<W, J> {
             stage2: access.stage2,
         };
         Ok(Core {
-            framer: Framer::new(alloc, COMMAND_LIMIT),
-            reply,
-            connection_state: ConnectionState::New,
+            state: CoreState {
+                framer: Framer::new(alloc, COMMAND_LIMIT),
+                connection_state: ConnectionState::New,
+                replies: ReplyState {
+                    tx: Tx::new(),
+                    reply,
+                },
+            },
             handshake: Handshake {
                 access,
                 salt: *salt,
                 id,
             },
-            tx: Tx::new(),
         })
     }
 
@@ -291,12 +287,17 @@ impl<W: World, J: Naming> Core<W, J> {
     {
         let reply = BytesMut::with_capacity(alloc, REPLY_ROOM)?;
         Ok(Core {
-            framer: Framer::new(alloc, COMMAND_LIMIT),
-            reply,
-            connection_state: ConnectionState::At(Phase::Commands(Settings::at_first(
-                capabilities,
-                None,
-            ))),
+            state: CoreState {
+                framer: Framer::new(alloc, COMMAND_LIMIT),
+                connection_state: ConnectionState::At(Phase::Commands(Settings::at_first(
+                    capabilities,
+                    None,
+                ))),
+                replies: ReplyState {
+                    tx: Tx::new(),
+                    reply,
+                },
+            },
             handshake: Handshake {
                 access: Access {
                     user: Items::new(alloc),
@@ -305,7 +306,6 @@ impl<W: World, J: Naming> Core<W, J> {
                 salt: [0; 20],
                 id,
             },
-            tx: Tx::new(),
         })
     }
 
@@ -320,7 +320,7 @@ impl<W: World, J: Naming> Core<W, J> {
     pub fn connection_state(&self) -> ConnectionState
         ensures { result ≡ self.now.connection_state }
     {
-        self.connection_state
+        self.state.connection_state
     }
 
     /// How the session ends if its input ends here, unless it has ended before: closed between two payloads, once the client was let in;
@@ -332,11 +332,11 @@ impl<W: World, J: Naming> Core<W, J> {
             → HasTalked (context_of o self.now.handshake) (Means o l) begin self.now first bytes out now
             → Talk self.now.framing.limit (context_of o self.now.handshake) (Means o l) begin first bytes out result now }
     {
-        match end_of(self.connection_state) {
+        match end_of(self.state.connection_state) {
             Some(end) => end,
             None => {
-                let is_let_in = is_in_commands(self.connection_state);
-                end_between(self.framer.is_between_payloads(), is_let_in)
+                let is_let_in = is_in_commands(self.state.connection_state);
+                end_between(self.state.framer.is_between_payloads(), is_let_in)
             }
         }
     }
@@ -421,30 +421,20 @@ impl<W: World + Send + Sync, J: Naming + Send + Sync> Core<W, J> {
         ensures next { IsStateAfter self.old self.new }
         ensures session { pass.new.session ≡ pass.old.session }
     {
-        let begin = self.connection_state;
-        if let Some(end) = end_of(begin) {
+        if let Some(end) = end_of(self.state.connection_state) {
             return Ok(Some(end));
         }
         begins_with(engine, pass);
-        match feed_parts(
+        let responder = Responder {
             rt,
             alloc,
             engine,
-            pass,
-            &mut self.tx,
-            &self.handshake,
-            begin,
-            piece,
-            &mut self.framer,
-            &mut self.reply,
-            sink,
-        ) {
-            Ok(connection_state) => {
-                self.connection_state = connection_state;
-                Ok(end_of(connection_state))
-            }
+            handshake: &self.handshake,
+        };
+        match self.state.answer_piece(&responder, pass, piece, sink) {
+            Ok(()) => Ok(end_of(self.state.connection_state)),
             Err(fault) => {
-                self.connection_state = ConnectionState::Ended(End::Broken);
+                self.state.connection_state = ConnectionState::Ended(End::Broken);
                 Err(fault)
             }
         }

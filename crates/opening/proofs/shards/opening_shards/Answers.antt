@@ -17,10 +17,10 @@ pub returns-clause-shards : goal.returns-clause-shards
 returns-clause-shards c =
     let schema = c.args.schema.now in
     let ranges = c.args.ranges.now in
-    let place = c.unsharded_keyspace.result in
+    let keyspace = c.unsharded_keyspace.result in
     let full = c.full.result in
     let first : c.push_shards.new.shards ≡ [] ++ keyspace_shards 0 (unsharded_keyspace schema) (full_range ∷ []) =
-    c.in_ok-push_shards.ensures ∙ (ap (λ (z : List ShardRecord). z ++ keyspace_shards (length z) place (full ∷ [])) c.new-shards.ensures
+    c.in_ok-push_shards.ensures ∙ (ap (λ (z : List ShardRecord). z ++ keyspace_shards (length z) keyspace (full ∷ [])) c.new-shards.ensures
     ∙ (ap (λ k. keyspace_shards 0 k (full ∷ [])) c.unsharded_keyspace.ensures
     ∙ ap (λ range. keyspace_shards 0 (unsharded_keyspace schema) (range ∷ [])) c.full.ensures)) in
     let shards = c.push_shards.new.shards in

@@ -13,9 +13,9 @@ answer_alone-requires g c =
     let is = rw c.in-Some.is at c.in_ok-gathered.ensures.ok in
     record {
       order = λ plain.
-          All-head (λ (piece : List Row). IsSorted (row_cmp c.args.plan.now.finish.order_by) piece) rows []
+          All-head (λ (piece : List Row). IsSorted (row_cmp c.args.read.now.plan.now.finish.order_by) piece) rows []
           (c.requires.order (rows ∷ []) reads c.ask_alone.new.pass is plain);
-      fit = subst (CanJoin c.args.plan.now.finish.grouping) (append-nil rows) (c.requires.fit (rows ∷ []) reads c.ask_alone.new.pass is);
+      fit = subst (CanJoin c.args.read.now.plan.now.finish.grouping) (append-nil rows) (c.requires.fit (rows ∷ []) reads c.ask_alone.new.pass is);
     }
 
 pub returns-in-Ok-clause-ok : goal.returns-in-Ok-clause-ok
@@ -24,5 +24,5 @@ returns-in-Ok-clause-ok g c =
     record {
       pieces = rows ∷ [];
       scattered = rw c.in-Some.is at c.in_ok-gathered.ensures.ok;
-      finished = subst (λ (l : List Row). Finishes c.args.plan.now.finish l c.in-Ok.answered) (sym (append-nil rows)) c.in-Ok.ensures.ok;
+      finished = subst (λ (l : List Row). Finishes c.args.read.now.plan.now.finish l c.in-Ok.answered) (sym (append-nil rows)) c.in-Ok.ensures.ok;
     }

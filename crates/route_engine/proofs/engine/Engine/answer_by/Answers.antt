@@ -18,10 +18,10 @@ answer_in_order-requires g c =
     let is = rw c.in-Some-2.is at c.in_ok-gathered.ensures.ok in
     record {
       order = λ plain.
-          given_back (λ piece. IsSorted (row_cmp c.args.plan.now.finish.order_by) piece) (λ r. reverse r.reversed) pieces
+          given_back (λ piece. IsSorted (row_cmp c.args.read.now.plan.now.finish.order_by) piece) (λ r. reverse r.reversed) pieces
           (c.requires.order (map (λ r. reverse r.reversed) pieces) reads c.scatter.new.pass is plain);
       fit =
-          subst (CanJoin c.args.plan.now.finish.grouping) (sym (flat_mapped (λ r. reverse r.reversed) pieces))
+          subst (CanJoin c.args.read.now.plan.now.finish.grouping) (sym (flat_mapped (λ r. reverse r.reversed) pieces))
           (c.requires.fit (map (λ r. reverse r.reversed) pieces) reads c.scatter.new.pass is);
     }
 
@@ -30,6 +30,6 @@ returns-in-Ok-clause-ok g c = record {
   pieces = map (λ r. reverse r.reversed) c.in-Some-2.gathered.pieces.items;
   scattered = rw c.in-Some-2.is at c.in_ok-gathered.ensures.ok;
   finished =
-      subst (λ (l : List Row). Finishes c.args.plan.now.finish l c.in-Ok.rows) (flat_mapped (λ r. reverse r.reversed) c.in-Some-2.gathered.pieces.items)
+      subst (λ (l : List Row). Finishes c.args.read.now.plan.now.finish l c.in-Ok.rows) (flat_mapped (λ r. reverse r.reversed) c.in-Some-2.gathered.pieces.items)
       c.in-Ok.ensures.ok;
 }

@@ -12,8 +12,7 @@ use Rattle.route_engine.proofs.engine.Engine.rows_in.Goals as goal
 pub returns-in_err-route-clause-err : goal.returns-in_err-route-clause-err
 returns-in_err-route-clause-err g c =
     let p = err_from_is_err_and c.from_residual.result c.from_residual.ensures.1 in
-    rw (p.1, p.2) (d.without_memory g.W.World.opening c.requires.opens c.requires.formed g.W.World.limits c.args.pass.now c.requires.legal c.requires.session c.requires.above
-    (record { bound = c.args.bound.now; pending = c.args.pending.now }) (typed.Select c.args.query.now))
+    rw (p.1, p.2) (d.without_memory g.W.World.opening g.W.World.limits c.args.pass.now c.requires.ready c.args.tx.now (typed.Select c.args.query.now))
 
 pub rows_by-given-requires-clause-keyspace : goal.rows_by-given-requires-clause-keyspace
 rows_by-given-requires-clause-keyspace g c κs within =

@@ -8,8 +8,7 @@ use Rattle.route_engine.proofs.engine.Engine.select_in.Goals as goal
 pub returns-in_err-narrowed-clause-err : goal.returns-in_err-narrowed-clause-err
 returns-in_err-narrowed-clause-err g c =
     let p = err_from_is_err_and c.from_residual.result c.from_residual.ensures.1 in
-    rw (p.1, p.2) (d.without_memory g.W.World.opening c.requires.opens c.requires.formed g.W.World.limits c.args.pass.now c.requires.legal c.requires.session c.requires.above
-    (record { bound = c.args.bound.now; pending = c.args.pending.now }) (typed.Select c.args.query))
+    rw (p.1, p.2) (d.without_memory g.W.World.opening g.W.World.limits c.args.pass.now c.requires.ready c.args.tx.now (typed.Select c.args.query))
 
 pub rows_in-given-requires-clause-joins : goal.rows_in-given-requires-clause-joins
 rows_in-given-requires-clause-joins g c κs within =

@@ -26,15 +26,12 @@ select_in-requires-clause-joins g c κs within =
 
 pub returns-in-SetNames-clause-ok : goal.returns-in-SetNames-clause-ok
 returns-in-SetNames-clause-ok g c =
-    rw (c.in-SetNames.is, c.counted.ensures) (d.names_go g.W.World.opening c.requires.opens c.requires.formed g.W.World.limits c.args.pass.now c.requires.legal c.requires.session c.requires.above
-    (record { bound = c.args.bound.now; pending = c.args.pending.now }))
+    rw (c.in-SetNames.is, c.counted.ensures) (d.names_go g.W.World.opening g.W.World.limits c.args.pass.now c.requires.ready c.args.tx.now)
 
 pub returns-in-Begin-clause-err : goal.returns-in-Begin-clause-err
 returns-in-Begin-clause-err g c =
-    rw c.in-Begin.is (d.begins_twice g.W.World.opening c.requires.opens c.requires.formed g.W.World.limits c.args.pass.now c.requires.legal c.requires.session c.requires.above
-    (record { bound = c.args.bound.now; pending = c.args.pending.now }))
+    rw c.in-Begin.is (d.begins_twice g.W.World.opening g.W.World.limits c.args.pass.now c.requires.ready c.args.tx.now)
 
 pub returns-in-Rollback-clause-ok : goal.returns-in-Rollback-clause-ok
 returns-in-Rollback-clause-ok g c =
-    rw (c.in-Rollback.is, c.counted-in-Rollback.ensures) (d.rolls_back g.W.World.opening c.requires.opens c.requires.formed g.W.World.limits c.args.pass.now c.requires.legal c.requires.session c.requires.above
-    (record { bound = c.args.bound.now; pending = c.args.pending.now }))
+    rw (c.in-Rollback.is, c.counted-in-Rollback.ensures) (d.rolls_back g.W.World.opening g.W.World.limits c.args.pass.now c.requires.ready c.args.tx.now)

@@ -23,5 +23,4 @@ count_by-count-requires-clause-keyspace g c κs within =
 
 pub returns-in-Err-clause-err : goal.returns-in-Err-clause-err
 returns-in-Err-clause-err g c =
-    d.without_memory g.W.World.opening c.requires.opens c.requires.formed g.W.World.limits c.args.pass.now c.requires.legal c.requires.session c.requires.above
-    (record { bound = c.args.bound.now; pending = c.args.pending.now }) (typed.Write c.args.write)
+    d.without_memory g.W.World.opening g.W.World.limits c.args.pass.now c.requires.ready c.args.tx.now (typed.Write c.args.write)

@@ -10,7 +10,7 @@ returns-in-Ok-clause-talk g c =
     (λ begin first s bytes out held before.
     let said = c.in-Ok.ensures.answers in
     let then = said.2.2 s held in
-    (said.2.0, said.2.1, (then.0, then.1, talked_on _ _ _ _ c.args.piece.now said.0 said.1 begin first s then.0 bytes out before said.2.0 c.in-Ok.connection_state refl then.2)))
+    (said.2.0, said.2.1, (then.0, then.1, talked_on _ _ _ _ c.args.piece.now said.0 said.1 begin first s then.0 bytes out before said.2.0 c.answer_piece.new.self.connection_state refl then.2)))
 
 pub returns-in-Ok-clause-alone : goal.returns-in-Ok-clause-alone
 returns-in-Ok-clause-alone g c =
@@ -18,11 +18,11 @@ returns-in-Ok-clause-alone g c =
     (λ begin first s bytes out held before alone.
     let said = c.in-Ok.ensures.answers in
     let then = said.2.2 s.kept held in
-    let over = fed_over g.W.World.opening g.W.World.limits _ c.begins_with.ensures.opens c.begins_with.ensures.formed _ said.0 said.2.0 c.in-Ok.connection_state s then.0
+    let over = fed_over g.W.World.opening g.W.World.limits _ c.begins_with.ensures.opens c.begins_with.ensures.formed _ said.0 said.2.0 c.answer_piece.new.self.connection_state s then.0
     (same_legal _ _ _ held.0 c.begins_with.ensures.legal) then.2 (same_others _ _ _ _ held.0 then.1.0 alone) in (
       said.2.0,
       said.2.1,
-      (over.0, kept_same _ _ _ _ _ over.1 then.1, talked_on _ _ _ _ c.args.piece.now said.0 said.1 begin first s over.0 bytes out before said.2.0 c.in-Ok.connection_state refl over.2),
+      (over.0, kept_same _ _ _ _ _ over.1 then.1, talked_on _ _ _ _ c.args.piece.now said.0 said.1 begin first s over.0 bytes out before said.2.0 c.answer_piece.new.self.connection_state refl over.2),
     ))
 
 pub returns-in-Ok-clause-by_command : goal.returns-in-Ok-clause-by_command
@@ -32,7 +32,7 @@ returns-in-Ok-clause-by_command g c =
     let said = c.in-Ok.ensures.answers in
     let kept = rw (← c.self.view_is) at c.requires.tx in
     let then = said.2.2 (record { pass = c.args.pass.now; tx = kept.0 }) (refl, kept.1) in
-    fed_ends _ _ _ _ _ said.0 said.2.0 c.in-Ok.connection_state then.2)
+    fed_ends _ _ _ _ _ said.0 said.2.0 c.answer_piece.new.self.connection_state then.2)
 
 pub returns-in-Err-clause-write : goal.returns-in-Err-clause-write
 returns-in-Err-clause-write g c =
@@ -45,7 +45,7 @@ returns-in-Err-clause-write g c =
       (
         then.0,
         then.1,
-        broken_off _ _ _ (record c.args.self.now { framing = c.feed_parts.new.framer }) c.args.piece.now said.0 said.1 begin first s then.0 bytes out before said.2.0 then.2,
+        broken_off _ _ _ (record c.args.self.now { framing = c.answer_piece.new.self.framer }) c.args.piece.now said.0 said.1 begin first s then.0 bytes out before said.2.0 then.2,
       ),
     ))
 
@@ -54,7 +54,7 @@ returns-in-Ok-clause-begun g c =
     let said = c.in-Ok.ensures.answers in
     let kept = rw (← c.self.view_is) at c.requires.tx in
     let then = said.2.2 (record { pass = c.args.pass.now; tx = kept.0 }) (refl, kept.1) in
-    fed_begun _ _ _ _ _ said.0 said.2.0 c.in-Ok.connection_state then.2
+    fed_begun _ _ _ _ _ said.0 said.2.0 c.answer_piece.new.self.connection_state then.2
 
 pub returns-in-Some-clause-begun : goal.returns-in-Some-clause-begun
-returns-in-Some-clause-begun g c = rw (← c.self.view_is) (ended_begun c.self.inside.connection_state c.in-Some.end (sym c.end_of.ensures ∙ c.in-Some.is))
+returns-in-Some-clause-begun g c = rw (← c.self.view_is) (ended_begun c.self.inside.state.connection_state c.in-Some.end (sym c.end_of.ensures ∙ c.in-Some.is))
