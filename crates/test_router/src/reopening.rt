@@ -6,7 +6,9 @@ ghost use Rattle.admin.specs.AdminAnswers.{keyspace_of};
 use crate::gate::HoldsFirst;
 use admin::Administrator;
 use journal::Naming;
-use reshard::{ReshardConfig, ReshardFault, SourceShard, Stopped, TargetShard, Workflow};
+use reshard::{
+    Replacement, ReshardConfig, ReshardFault, SourceShard, Stopped, TargetShard, Workflow,
+};
 use route_engine::Engine;
 use serving::ShardReference;
 use shard::{Shard, ShardPass, World};
@@ -37,6 +39,14 @@ impl<W: World, J: Naming> Model for Found<W, J> {
 }
 
 impl<W: World, J: Naming> Found<W, J> {
+    // Its shards, as a workflow is made again of them.
+    fn replacement(&self) -> Replacement<'_, ShardReference<Shard<W, J>>> {
+        Replacement {
+            sources: self.sources.as_slice(),
+            targets: self.targets.as_slice(),
+        }
+    }
+
     fn put_sources(&mut self, sources: &[SourceShard<W, J>]) -> Result<(), Refusal> {
         for source in sources {
             put(&mut self.sources, &source.member.shard)?;
@@ -82,14 +92,7 @@ fn reopen_workflow<W: World + Send + Sync, J: Naming + Send + Sync>(
         return Err(ReshardFault::WrongState);
     };
     let _ = pass.session();
-    workflow.reopen(
-        rt,
-        alloc,
-        pass,
-        serving,
-        found.sources.as_slice(),
-        found.targets.as_slice(),
-    )
+    workflow.reopen(rt, alloc, pass, serving, &found.replacement())
 }
 
 // Another controller of the same slots and shards, whether it took the workflow up, and of which shards.
@@ -166,12 +169,5 @@ pub(crate) fn reopen_last<W: World + Send + Sync, J: Naming + Send + Sync>(
     };
     let mut other = Workflow::new(alloc, found.config, Vec::new(alloc));
     let _ = pass.session();
-    other.reopen(
-        rt,
-        alloc,
-        pass,
-        serving,
-        found.sources.as_slice(),
-        found.targets.as_slice(),
-    )
+    other.reopen(rt, alloc, pass, serving, &found.replacement())
 }

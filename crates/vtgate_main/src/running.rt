@@ -74,7 +74,8 @@ fn script_words(words: &[Word]) -> Option<&str>
 /// which declares the VSchema: 0, or 1 if a device fails or there is no memory. `serve`, with the words that `read_words` reads, serves
 /// connections under the VSchema that the whole input declares: 0 after the last one, or 1 if a port can't be bound, no thread can be
 /// started, a device fails or there is no memory. Any other words are wrong: the usage is printed, and the status is 2. A word that isn't UTF-8
-/// is wrong, but for the statement of `plan`. A VSchema's fault is printed too, and the status is 2. Groups are hashed by the key.
+/// is wrong, but for the statement of `plan`. A VSchema's fault is printed too, and the status is 2. Groups are hashed by the key. The clauses tell what
+/// became of each of the devices, which are handed over one by one.
 pub fn run<
     R: Threads + Wait + Sync + Clock + Log + Net<Listener = TcpListener, Stream = TcpStream>,
     I: Source,

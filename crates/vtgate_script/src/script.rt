@@ -1,11 +1,9 @@
 //! `vtgate script`: lines that are run in order, on one thread.
-ghost use Rattle.std.specs.Prelude.{◌≡◌, ◌≤◌, ℕ, List, [], None, IsTrue, IfOk, IfErr, OnOk, Ok};
+ghost use Rattle.std.specs.Prelude.{◌≡◌, ◌≤◌, ℕ, List, IsTrue, IfOk, IfErr, OnOk, Ok};
 ghost use Rattle.vschema.specs.Meant.{contents, schema_read};
 ghost use Rattle.vschema.specs.WellFormed.{is_vschema};
 ghost use Rattle.shard_law.specs.Entries.{most_limits};
-ghost use Rattle.journal.specs.Views.{new_pass};
-ghost use Rattle.opening.specs.Empty.{opening_of, sharded_keyspace, FitRanges};
-ghost use Rattle.admin.specs.AdminAnswers.{keyspace_of};
+ghost use Rattle.opening.specs.Empty.{opening_of, FitRanges};
 ghost use Rattle.admin.specs.Idle.{opening_workflow};
 ghost use Rattle.vtgate_lines.specs.Lines.{IsNextLine};
 ghost use Rattle.vtgate_lines.specs.Partitions.{NamesPartition};
@@ -13,13 +11,13 @@ ghost use Rattle.vtgate_setup.specs.Statuses.{TellsNone, status_of};
 ghost use Rattle.vtgate_script.specs.Scripted.{HasPrinted, HasScripted};
 ghost use Rattle.vtgate_script.specs.Wrong.{DeclaresNone, IsWrongScript};
 
-use crate::sessions::{Sessions, run_lines};
-use admin::{Administrator, administered_router, widest_limits};
-use journal::{Naming, Opened, Opener};
+use crate::sessions::{ScriptContext, Sessions, run_lines};
+use admin::{administered_router, widest_limits};
+use journal::{Naming, Opened};
 use keyrange::KeyRange;
-use route_engine::{Engine, Open};
+use route_engine::Open;
 use session::{Sink, Source};
-use shard::{ShardLaw, ShardPass, World};
+use shard::{ShardLaw, World};
 use std::alloc::Global;
 use std::marker::Brand;
 use std::sync::Wait;
@@ -30,37 +28,8 @@ use vtgate_setup::{
     FAILURE, RunFault, SUCCESS, WRONG_WORDS, has_too_many, ranges_of, read_all, refuse, schema_of,
 };
 
-// The lines, run by the engine and the administrator of its sharded keyspace.
-fn run_router<W: World + Send + Sync, J: Naming + Send + Sync, R: Threads + Wait + Sync, O: Sink>(
-    rt: &R,
-    alloc: Global,
-    engine: &Engine<W, J, Open>,
-    mut administrator: Administrator<W, J>,
-    opener: Opener<ShardLaw<W>, J>,
-    pass: ShardPass<W, J>,
-    lines: &[u8],
-    output: &mut O,
-) -> Result<(), RunFault>
-    requires home { keyspace_of administrator ≡ sharded_keyspace engine.now }
-    requires limits { W.limits ≡ most_limits }
-    requires opener { opener ≡ 0 }
-    requires pass { pass ≡ new_pass [] None }
-    ensures given { OnOk result (HasPrinted W.opening administrator lines.now (O.taken output.old) (O.taken output.new)) }
-    ensures fault { IfErr result (λ f. status_of f ≡ FAILURE) }
-{
-    let mut sessions = Sessions::new(alloc, opener, pass);
-    run_lines(
-        rt,
-        alloc,
-        engine,
-        &mut administrator,
-        &mut sessions,
-        lines,
-        output,
-    )
-}
-
-// The lines, run over the VSchema and the ranges in the journal that was opened.
+// The lines, run over the VSchema and the ranges in the journal that was opened. The clauses tie these three to the world, so they are handed
+// down one by one.
 fn run_opened<W: World + Send + Sync, J: Naming + Send + Sync, R: Threads + Wait + Sync, O: Sink>(
     rt: &R,
     alloc: Global,
@@ -81,16 +50,15 @@ fn run_opened<W: World + Send + Sync, J: Naming + Send + Sync, R: Threads + Wait
     let limits = widest_limits();
     match administered_router::<W, J, Open>(alloc, schema, ranges, limits, opened, 0, Open) {
         Err(_) => Err(RunFault::OutOfMemory),
-        Ok((engine, administrator, opener, pass)) => run_router(
-            rt,
-            alloc,
-            &engine,
-            administrator,
-            opener,
-            pass,
-            lines,
-            output,
-        ),
+        Ok((engine, mut administrator, opener, pass)) => {
+            let mut sessions = Sessions::new(alloc, opener, pass);
+            let context = ScriptContext {
+                rt,
+                alloc,
+                engine: &engine,
+            };
+            run_lines(&context, &mut administrator, &mut sessions, lines, output)
+        }
     }
 }
 
@@ -144,23 +112,6 @@ fn begin<'l>(
     }
 }
 
-// The lines, run over the VSchema and the ranges.
-fn run_over<R: Threads + Wait + Sync, O: Sink>(
-    rt: &R,
-    alloc: Global,
-    schema: VSchema,
-    ranges: &[KeyRange],
-    lines: &[u8],
-    output: &mut O,
-) -> Result<(), RunFault>
-    requires schema { IsTrue (is_vschema schema) }
-    requires ranges { FitRanges schema ranges.now }
-    ensures given { OnOk result (HasPrinted (opening_of schema ranges.now) (opening_workflow schema ranges.now) lines.now (O.taken output.old) (O.taken output.new)) }
-    ensures fault { IfErr result (λ f. status_of f ≡ FAILURE) }
-{
-    run_in_world::<Brand, R, O>(rt, alloc, schema, ranges, lines, output)
-}
-
 fn scripted<R: Threads + Wait + Sync, I: Source, O: Sink>(
     rt: &R,
     alloc: Global,
@@ -176,14 +127,14 @@ fn scripted<R: Threads + Wait + Sync, I: Source, O: Sink>(
     let ranges = ranges_of(alloc, shards)?;
     let text = read_all(alloc, input)?;
     let (schema, lines) = begin(alloc, hashing, &ranges, &text)?;
-    run_over(rt, alloc, schema, &ranges, lines, output)
+    run_in_world::<Brand, R, O>(rt, alloc, schema, &ranges, lines, output)
 }
 
 /// Runs the lines of an input, of which the first declares the VSchema, over the ranges that the word of the shards names, and gives the
 /// status 0. What is printed for a line is written before the next is run. The status is 1 if a device fails or there is no memory for
 /// the input, for what it runs over or for a session; and 2 if the word names no ranges, or more than 63 with an unsharded keyspace,
 /// and if the first line declares no VSchema. The word is tested before the input is read. Groups
-/// are hashed by the key.
+/// are hashed by the key. The clauses tell what became of each of the devices, which are handed over one by one.
 pub fn run_script<R: Threads + Wait + Sync, I: Source, O: Sink, E: Sink>(
     rt: &R,
     alloc: Global,

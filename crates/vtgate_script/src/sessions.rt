@@ -63,11 +63,17 @@ fn write_outcome<O: Sink>(
     }
 }
 
+/// What each line of a script is run with, beside the administrator and the sessions.
+#[derive(Drop)]
+pub struct ScriptContext<'c, W: World, J: Naming, R> {
+    pub rt: &'c R,
+    pub alloc: Global,
+    pub engine: &'c Engine<W, J, Open>,
+}
+
 // Runs a statement of the pass's session after all that was seen, and writes what is printed for it.
 fn run_after<W: World + Send + Sync, J: Naming + Send + Sync, R: Threads + Wait + Sync, O: Sink>(
-    rt: &R,
-    alloc: Global,
-    engine: &Engine<W, J, Open>,
+    context: &ScriptContext<'_, W, J, R>,
     all: &mut ShardPass<W, J>,
     pass: &mut ShardPass<W, J>,
     tx: &mut Tx<W, J>,
@@ -88,12 +94,13 @@ fn run_after<W: World + Send + Sync, J: Naming + Send + Sync, R: Threads + Wait 
     ensures later { IsPrefix all.old.seen all.new.seen }
     ensures session { pass.new.session ≡ pass.old.session }
 {
+    let engine = context.engine;
     let _ = engine.schema();
     let _ = all.session();
     pass.meet(all);
-    let outcome = engine.execute(rt, alloc, pass, tx, sql);
+    let outcome = engine.execute(context.rt, context.alloc, pass, tx, sql);
     all.meet(pass);
-    write_outcome(alloc, outcome, output)
+    write_outcome(context.alloc, outcome, output)
 }
 
 /// A session of a script: its name, its pass and its transaction.
@@ -262,9 +269,7 @@ impl<W: World + Send + Sync, J: Naming + Send + Sync> Sessions<W, J> {
     // Runs a statement of the session at the ordinal.
     fn run_at<R: Threads + Wait + Sync, O: Sink>(
         &mut self,
-        rt: &R,
-        alloc: Global,
-        engine: &Engine<W, J, Open>,
+        context: &ScriptContext<'_, W, J, R>,
         ordinal: usize,
         sql: &[u8],
         output: &mut O,
@@ -277,9 +282,7 @@ impl<W: World + Send + Sync, J: Naming + Send + Sync> Sessions<W, J> {
     {
         let session = &mut self.sessions[ordinal];
         let result = run_after(
-            rt,
-            alloc,
-            engine,
+            context,
             &mut self.all,
             &mut session.pass,
             &mut session.tx,
@@ -293,9 +296,7 @@ impl<W: World + Send + Sync, J: Naming + Send + Sync> Sessions<W, J> {
     // Runs a statement of the session of this name.
     fn run_statement<R: Threads + Wait + Sync, O: Sink>(
         &mut self,
-        rt: &R,
-        alloc: Global,
-        engine: &Engine<W, J, Open>,
+        context: &ScriptContext<'_, W, J, R>,
         name: &[u8],
         sql: &[u8],
         output: &mut O,
@@ -305,10 +306,10 @@ impl<W: World + Send + Sync, J: Naming + Send + Sync> Sessions<W, J> {
             × ((p : ScriptProgress) → IsProgressOf W.opening self.old p → (q : ScriptProgress) × IsProgressOf W.opening self.new q × Runs W.opening p name.now sql.now text q)) }
         ensures fault { IfErr result (λ f. status_of f ≡ FAILURE) }
     {
-        let Ok(ordinal) = self.ordinal_or_open(alloc, name) else {
+        let Ok(ordinal) = self.ordinal_or_open(context.alloc, name) else {
             return Err(RunFault::OutOfMemory);
         };
-        match self.run_at(rt, alloc, engine, ordinal, sql, output) {
+        match self.run_at(context, ordinal, sql, output) {
             Ok(()) => Ok(()),
             Err(_) => Err(RunFault::Failed),
         }
@@ -317,22 +318,27 @@ impl<W: World + Send + Sync, J: Naming + Send + Sync> Sessions<W, J> {
     // Does what the words of an admin line ask for, after all that was seen.
     fn run_admin<R: Wait, O: Sink>(
         &mut self,
-        rt: &R,
-        alloc: Global,
-        engine: &Engine<W, J, Open>,
+        context: &ScriptContext<'_, W, J, R>,
         administrator: &mut Administrator<W, J>,
         words: &[u8],
         output: &mut O,
     ) -> Result<(), RunFault>
         requires limits { W.limits ≡ most_limits }
-        requires home { keyspace_of administrator.old ≡ sharded_keyspace engine.now }
+        requires home { keyspace_of administrator.old ≡ sharded_keyspace context.now.engine.now }
         ensures keyspace { keyspace_of administrator.new ≡ keyspace_of administrator.old }
         ensures told { OnOk result ((reply : AdminReply) × (p : PassView Entry) × (q : PassView Entry) × Appends (O.taken output.old) (O.taken output.new) (reply_text reply)
             × (p.seen ≡ self.old.seen) × NoCommits self.old.seen q.seen × (self.new ≡ record self.old { seen = q.seen })
             × told.IsAdminReply W.opening most_limits words.now p q reply administrator.old administrator.new) }
         ensures fault { IfErr result (λ f. status_of f ≡ FAILURE) }
     {
-        let reply = administer(rt, alloc, engine, administrator, &mut self.all, words);
+        let reply = administer(
+            context.rt,
+            context.alloc,
+            context.engine,
+            administrator,
+            &mut self.all,
+            words,
+        );
         confirm_all(&mut self.opener, &mut self.sessions, &mut self.all);
         write_all(reply.line(), output)
     }
@@ -340,23 +346,21 @@ impl<W: World + Send + Sync, J: Naming + Send + Sync> Sessions<W, J> {
     // Runs a line.
     fn run_line<R: Threads + Wait + Sync, O: Sink>(
         &mut self,
-        rt: &R,
-        alloc: Global,
-        engine: &Engine<W, J, Open>,
+        context: &ScriptContext<'_, W, J, R>,
         administrator: &mut Administrator<W, J>,
         line: &[u8],
         output: &mut O,
     ) -> Result<(), RunFault>
         requires limits { W.limits ≡ most_limits }
-        requires home { keyspace_of administrator.old ≡ sharded_keyspace engine.now }
+        requires home { keyspace_of administrator.old ≡ sharded_keyspace context.now.engine.now }
         ensures keyspace { keyspace_of administrator.new ≡ keyspace_of administrator.old }
         ensures gives { OnOk result ((text : List ℕ) × Appends (O.taken output.old) (O.taken output.new) text
             × ((p : ScriptProgress) → IsProgressOf W.opening self.old p → (q : ScriptProgress) × IsProgressOf W.opening self.new q × PrintsLine W.opening p administrator.old line.now text q administrator.new)) }
         ensures fault { IfErr result (λ f. status_of f ≡ FAILURE) }
     {
         match read_line(line) {
-            Line::Statement(name, sql) => self.run_statement(rt, alloc, engine, name, sql, output),
-            Line::Admin(words) => self.run_admin(rt, alloc, engine, administrator, words, output),
+            Line::Statement(name, sql) => self.run_statement(context, name, sql, output),
+            Line::Admin(words) => self.run_admin(context, administrator, words, output),
             Line::Unknown => write_all(b"unknown\n", output),
         }
     }
@@ -380,9 +384,7 @@ pub fn run_lines<
     R: Threads + Wait + Sync,
     O: Sink,
 >(
-    rt: &R,
-    alloc: Global,
-    engine: &Engine<W, J, Open>,
+    context: &ScriptContext<'_, W, J, R>,
     administrator: &mut Administrator<W, J>,
     sessions: &mut Sessions<W, J>,
     lines: &[u8],
@@ -390,13 +392,13 @@ pub fn run_lines<
 ) -> Result<(), RunFault>
     requires limits { W.limits ≡ most_limits }
     requires first { sessions.old ≡ nothing_kept }
-    requires home { keyspace_of administrator.old ≡ sharded_keyspace engine.now }
+    requires home { keyspace_of administrator.old ≡ sharded_keyspace context.now.engine.now }
     ensures given { OnOk result (HasPrinted W.opening administrator.old lines.now (O.taken output.old) (O.taken output.new)) }
     ensures fault { IfErr result (λ f. status_of f ≡ FAILURE) }
 {
     let mut rest = lines;
     while let Some((line, more)) = next_line(rest) {
-        sessions.run_line(rt, alloc, engine, administrator, line, output)?;
+        sessions.run_line(context, administrator, line, output)?;
         rest = more;
     }
     Ok(())

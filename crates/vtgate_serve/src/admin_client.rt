@@ -87,26 +87,39 @@ fn tell_answer<W: World + Send + Sync, J: Naming + Send + Sync, G: Gate, R: Wait
     events::administered(rt, words, answer, waiting, events::since(rt, start));
 }
 
-// Answers a line.
-fn answer<W: World + Send + Sync, J: Naming + Send + Sync, G: Gate, O: Sink>(
-    rt: &(impl Wait + Clock + Log),
+/// What each line is answered with, beside the administrator and its pass.
+#[derive(Drop)]
+struct LineContext<'c, W: World, J: Naming, G: Gate, R> {
+    rt: &'c R,
     alloc: Global,
-    engine: &Engine<W, J, G>,
+    engine: &'c Engine<W, J, G>,
+}
+
+// Answers a line.
+fn answer<W: World + Send + Sync, J: Naming + Send + Sync, G: Gate, R: Wait + Clock + Log, O: Sink>(
+    context: &LineContext<'_, W, J, G, R>,
     administrator: &mut Administrator<W, J>,
     pass: &mut ShardPass<W, J>,
     words: &[u8],
     sink: &mut O,
 ) -> Result<(), BrokenOff>
-    requires home { keyspace_of administrator.old ≡ sharded_keyspace engine.now }
+    requires home { keyspace_of administrator.old ≡ sharded_keyspace context.now.engine.now }
     ensures keyspace { keyspace_of administrator.new ≡ keyspace_of administrator.old }
     ensures told { OnOk result ((reply : AdminReply) × IsAdminReply W.opening W.limits words.now pass.old pass.new reply administrator.old administrator.new
         × Appends (O.taken sink.old) (O.taken sink.new) (reply_text reply)) }
     ensures untold { OnErr result ((reply : AdminReply) × IsAdminReply W.opening W.limits words.now pass.old pass.new reply administrator.old administrator.new
         × AppendsFront (O.taken sink.old) (O.taken sink.new) (reply_text reply)) }
 {
-    let start = Instant::now(rt).ok();
-    let reply = administer(rt, alloc, engine, administrator, pass, words);
-    tell_answer(rt, engine, words, reply.line(), start);
+    let start = Instant::now(context.rt).ok();
+    let reply = administer(
+        context.rt,
+        context.alloc,
+        context.engine,
+        administrator,
+        pass,
+        words,
+    );
+    tell_answer(context.rt, context.engine, words, reply.line(), start);
     match sink.write(reply.line()) {
         Ok(()) => Ok(()),
         Err(_) => Err(BrokenOff),
@@ -114,17 +127,21 @@ fn answer<W: World + Send + Sync, J: Naming + Send + Sync, G: Gate, O: Sink>(
 }
 
 // Answers the lines that a piece ends after the front of a line. What comes after them waits for its end.
-fn answer_piece<W: World + Send + Sync, J: Naming + Send + Sync, G: Gate, O: Sink>(
-    rt: &(impl Wait + Clock + Log),
-    alloc: Global,
-    engine: &Engine<W, J, G>,
+fn answer_piece<
+    W: World + Send + Sync,
+    J: Naming + Send + Sync,
+    G: Gate,
+    R: Wait + Clock + Log,
+    O: Sink,
+>(
+    context: &LineContext<'_, W, J, G, R>,
     administrator: &mut Administrator<W, J>,
     pass: &mut ShardPass<W, J>,
     front: &mut Vec<u8>,
     piece: &[u8],
     sink: &mut O,
 ) -> Result<(), BrokenOff>
-    requires home { keyspace_of administrator.old ≡ sharded_keyspace engine.now }
+    requires home { keyspace_of administrator.old ≡ sharded_keyspace context.now.engine.now }
     requires unended { HasNoEnd front.old.items }
     ensures keyspace { keyspace_of administrator.new ≡ keyspace_of administrator.old }
     ensures told { OnOk result (AllAnswered W.opening W.limits (record { pass = pass.old; workflow = administrator.old }) (front.old.items ++ piece.now) front.new.items
@@ -139,7 +156,7 @@ fn answer_piece<W: World + Send + Sync, J: Naming + Send + Sync, G: Gate, O: Sin
         if !is_printable(words) {
             return Err(reject(sink));
         }
-        answer(rt, alloc, engine, administrator, pass, words, sink)?;
+        answer(context, administrator, pass, words, sink)?;
         front.clear();
         rest = trailing;
     }
@@ -147,21 +164,23 @@ fn answer_piece<W: World + Send + Sync, J: Naming + Send + Sync, G: Gate, O: Sin
 }
 
 // Answers the lines that the next piece of the source ends, and returns whether there was one.
-fn answer_next<W: World + Send + Sync, J: Naming + Send + Sync, G: Gate, I: Source, O: Sink>(
-    rt: &(impl Wait + Clock + Log),
-    alloc: Global,
-    engine: &Engine<W, J, G>,
+fn answer_next<
+    W: World + Send + Sync,
+    J: Naming + Send + Sync,
+    G: Gate,
+    R: Wait + Clock + Log,
+    I: Source,
+    O: Sink,
+>(
+    context: &LineContext<'_, W, J, G, R>,
     administrator: &mut Administrator<W, J>,
     pass: &mut ShardPass<W, J>,
     front: &mut Vec<u8>,
-    buffer: &mut [u8],
     source: &mut I,
     sink: &mut O,
 ) -> Result<bool, BrokenOff>
-    requires home { keyspace_of administrator.old ≡ sharded_keyspace engine.now }
+    requires home { keyspace_of administrator.old ≡ sharded_keyspace context.now.engine.now }
     requires unended { HasNoEnd front.old.items }
-    requires room { 0 < length buffer.old }
-    ensures room { length buffer.new ≡ length buffer.old }
     ensures keyspace { keyspace_of administrator.new ≡ keyspace_of administrator.old }
     ensures told { IfOk result (λ more. (piece : List ℕ) × Consumes (I.unread source.old) (I.unread source.new) piece
         × AllAnswered W.opening W.limits (record { pass = pass.old; workflow = administrator.old }) (front.old.items ++ piece) front.new.items
@@ -171,34 +190,31 @@ fn answer_next<W: World + Send + Sync, J: Naming + Send + Sync, G: Gate, I: Sour
         × BreaksOff W.opening W.limits (record { pass = pass.old; workflow = administrator.old }) (front.old.items ++ piece)
         (O.taken sink.old) (O.taken sink.new) (record { pass = pass.new; workflow = administrator.new })) }
 {
-    let Ok(n) = source.read(buffer) else {
+    let mut buffer = [0u8; PIECE];
+    let Ok(n) = source.read(&mut buffer) else {
         return Err(BrokenOff);
     };
-    answer_piece(
-        rt,
-        alloc,
-        engine,
-        administrator,
-        pass,
-        front,
-        &buffer[..n],
-        sink,
-    )?;
+    answer_piece(context, administrator, pass, front, &buffer[..n], sink)?;
     Ok(n > 0)
 }
 
 // Answers the lines that the source gives. What came of a line that has not ended is kept in front.
-fn answer_all<W: World + Send + Sync, J: Naming + Send + Sync, G: Gate, I: Source, O: Sink>(
-    rt: &(impl Wait + Clock + Log),
-    alloc: Global,
-    engine: &Engine<W, J, G>,
+fn answer_all<
+    W: World + Send + Sync,
+    J: Naming + Send + Sync,
+    G: Gate,
+    R: Wait + Clock + Log,
+    I: Source,
+    O: Sink,
+>(
+    context: &LineContext<'_, W, J, G, R>,
     administrator: &mut Administrator<W, J>,
     pass: &mut ShardPass<W, J>,
     front: &mut Vec<u8>,
     source: &mut I,
     sink: &mut O,
 ) -> Result<(), BrokenOff>
-    requires home { keyspace_of administrator.old ≡ sharded_keyspace engine.now }
+    requires home { keyspace_of administrator.old ≡ sharded_keyspace context.now.engine.now }
     requires none { front.old.items ≡ [] }
     ensures keyspace { keyspace_of administrator.new ≡ keyspace_of administrator.old }
     ensures talked { OnOk result (HasAnsweredAll W.opening W.limits (record { pass = pass.old; workflow = administrator.old })
@@ -206,19 +222,8 @@ fn answer_all<W: World + Send + Sync, J: Naming + Send + Sync, G: Gate, I: Sourc
     ensures broke { OnErr result (HasEndedEarly W.opening W.limits (record { pass = pass.old; workflow = administrator.old })
         (record { pass = pass.new; workflow = administrator.new }) (I.unread source.old) (I.unread source.new) (O.taken sink.old) (O.taken sink.new)) }
 {
-    let mut buffer = [0u8; PIECE];
-    for _ in rt.forever() {
-        if !answer_next(
-            rt,
-            alloc,
-            engine,
-            administrator,
-            pass,
-            front,
-            &mut buffer,
-            source,
-            sink,
-        )? {
+    for _ in context.rt.forever() {
+        if !answer_next(context, administrator, pass, front, source, sink)? {
             return Ok(());
         }
     }
@@ -233,7 +238,8 @@ fn answer_all<W: World + Send + Sync, J: Naming + Send + Sync, G: Gate, I: Sourc
 /// Answers the lines of a client, each over what the lines before it left, until its input ends. The administrator is that of the engine's
 /// sharded keyspace. It breaks off if a device fails, if a line has more than `LONGEST_LINE` bytes, and if there is no memory for one;
 /// nothing more is done then. What the line before that asked for is done, even if its reply couldn't be written. It also breaks off
-/// at a line with a byte outside 20 to 7E, which it answers `unknown`: what a browser sends has such a byte in each line.
+/// at a line with a byte outside 20 to 7E, which it answers `unknown`: what a browser sends has such a byte in each line. The clauses tell what
+/// became of the administrator, its pass and both devices, which are handed over one by one.
 pub fn talk<W: World + Send + Sync, J: Naming + Send + Sync, G: Gate, I: Source, O: Sink>(
     rt: &(impl Wait + Clock + Log),
     alloc: Global,
@@ -250,15 +256,7 @@ pub fn talk<W: World + Send + Sync, J: Naming + Send + Sync, G: Gate, I: Source,
     ensures broke { OnErr result (HasEndedEarly W.opening W.limits (record { pass = pass.old; workflow = administrator.old })
         (record { pass = pass.new; workflow = administrator.new }) (I.unread source.old) (I.unread source.new) (O.taken sink.old) (O.taken sink.new)) }
 {
+    let context = LineContext { rt, alloc, engine };
     let mut front = Vec::new(alloc);
-    answer_all(
-        rt,
-        alloc,
-        engine,
-        administrator,
-        pass,
-        &mut front,
-        source,
-        sink,
-    )
+    answer_all(&context, administrator, pass, &mut front, source, sink)
 }

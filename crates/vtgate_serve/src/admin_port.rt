@@ -6,14 +6,14 @@ ghost use Rattle.admin.specs.AdminAnswers.{keyspace_of};
 
 use crate::admin_client::talk;
 use crate::progress::ServeProgress;
+use crate::server::Server;
 use crate::waits::is_made_again;
 use admin::Administrator;
 use journal::Naming;
 use log::Log;
-use route_engine::{Engine, Gate};
+use route_engine::Gate;
 use session::{DeviceFailed, Sink, Source};
 use shard::{ShardPass, World};
-use std::alloc::Global;
 use std::io::{Read, Write};
 use std::net::{TcpListener, TcpStream};
 use std::sync::Wait;
@@ -155,15 +155,12 @@ impl Sink for Answers<'_> {
 
 // Answers the lines of one client, until it leaves or all is served.
 fn serve_one<W: World + Send + Sync, J: Naming + Send + Sync, G: Gate, R: Wait + Clock + Log>(
-    rt: &R,
-    alloc: Global,
-    engine: &Engine<W, J, G>,
+    server: &Server<'_, W, J, G, R>,
     administrator: &mut Administrator<W, J>,
     pass: &mut ShardPass<W, J>,
     stream: &TcpStream,
-    progress: &ServeProgress,
 )
-    requires home { keyspace_of administrator.old ≡ sharded_keyspace engine.now }
+    requires home { keyspace_of administrator.old ≡ sharded_keyspace server.now.engine.now }
     ensures keyspace { keyspace_of administrator.new ≡ keyspace_of administrator.old }
 {
     let patience = Duration::from_millis(BETWEEN_TRIES);
@@ -171,50 +168,47 @@ fn serve_one<W: World + Send + Sync, J: Naming + Send + Sync, G: Gate, R: Wait +
     let _ = stream.set_read_timeout(Some(patience));
     let _ = stream.set_write_timeout(Some(patience));
     let mut source = Lines {
-        rt,
+        rt: server.rt,
         stream,
-        progress,
+        progress: server.progress,
         failures: 0,
     };
     let mut sink = Answers {
         stream,
-        progress,
+        progress: server.progress,
         failures: 0,
     };
     let _ = talk(
-        rt,
-        alloc,
-        engine,
+        server.rt,
+        server.alloc,
+        server.engine,
         administrator,
         pass,
         &mut source,
         &mut sink,
     );
-    progress.end_switch();
+    server.progress.end_switch();
 }
 
 /// Serves the clients of the admin port, one after the other, until all connections are served. The administrator is that of the engine's
 /// sharded keyspace.
 pub fn serve_admin<W: World + Send + Sync, J: Naming + Send + Sync, G: Gate, R: Wait + Clock + Log>(
-    rt: &R,
-    alloc: Global,
-    engine: &Engine<W, J, G>,
+    server: &Server<'_, W, J, G, R>,
     administrator: &mut Administrator<W, J>,
     pass: &mut ShardPass<W, J>,
     listener: &TcpListener,
-    progress: &ServeProgress,
 )
-    requires home { keyspace_of administrator.old ≡ sharded_keyspace engine.now }
+    requires home { keyspace_of administrator.old ≡ sharded_keyspace server.now.engine.now }
 {
     let _ = listener.set_nonblocking(true);
-    for _ in rt.forever() {
-        if !progress.is_under_way() {
+    for _ in server.rt.forever() {
+        if !server.progress.is_under_way() {
             return;
         }
         match listener.accept() {
-            Ok((stream, _)) => serve_one(rt, alloc, engine, administrator, pass, &stream, progress),
+            Ok((stream, _)) => serve_one(server, administrator, pass, &stream),
             Err(_) => {
-                let _ = thread::sleep(rt, Duration::from_millis(BETWEEN_LOOKS));
+                let _ = thread::sleep(server.rt, Duration::from_millis(BETWEEN_LOOKS));
             }
         }
     }

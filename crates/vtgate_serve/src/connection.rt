@@ -1,12 +1,9 @@
 //! One connection.
-ghost use Rattle.std.specs.Prelude.{◌≡◌, ◌≤◌, ◌^◌, ◌++◌, ℕ, List, IsSome, IfOk, Err};
-ghost use Rattle.std.specs.Io.KnownBytes.{Appends, Consumes, IsAtEnd};
-ghost use Rattle.shard_calls.specs.Alone.{NoOthers};
-ghost use Rattle.session.specs.Alone.{Alone, MeansAlone, alone_context, alone_first};
+ghost use Rattle.std.specs.Prelude.{◌≡◌, IsSome, IfOk};
+ghost use Rattle.std.specs.Io.KnownBytes.{IsAtEnd};
+ghost use Rattle.session.specs.Served.{HasTalkedWhole, HasTalkedAlone, HasStoppedReading, HasStoppedForMemory, HasStoppedWriting};
 ghost use Rattle.conversation.specs.Devices.{read_failures_after, write_failures_after};
-ghost use Rattle.conversation.specs.Means.{Means, PassAndTransaction, none_open, context_of};
-ghost use Rattle.conversation.specs.Faults.{HasBrokenOff, IsUnfinished};
-ghost use Rattle.conversation.specs.Talk.{IsByInput, Talk};
+ghost use Rattle.conversation.specs.Talk.{IsByInput};
 ghost use Rattle.vtgate_serve.specs.Admitted.{handshake_of};
 
 use crate::admission::Admission;
@@ -20,7 +17,7 @@ use journal::Naming;
 use log::{Level, Log, log_enabled};
 use mysql_handshake::salt_of;
 use route_engine::{Engine, Gate};
-use session::{ConnectionState, End, SessionFault, Sink, Source, Writer, serve};
+use session::{End, SessionFault, Sink, Source, Writer, serve};
 use shard::{ShardPass, World};
 use std::alloc::Global;
 use std::net::{SocketAddr, TcpStream};
@@ -61,7 +58,7 @@ impl<W: World, J: Naming> Connection<W, J> {
 // nobody else, and its bytes are then the conversation, over any device
 // Clauses: talk, alone, read, memory, write
 /// Serves the connection with the number over these devices until it ends: greets its client by the salt that the nonce of the words and the
-/// number make, and lets in whom the words name.
+/// number make, and lets in whom the words name. The clauses tell what became of the pass and of both devices, which are handed over one by one.
 pub fn serve_connection<
     W: World + Send + Sync,
     J: Naming + Send + Sync,
@@ -79,31 +76,12 @@ pub fn serve_connection<
     sink: &mut O,
 ) -> Result<End, SessionFault>
     requires session { IsSome pass.old.session }
-    ensures talk { IfOk result (λ end. (read : List ℕ) × (written : List ℕ)
-        × Consumes (I.unread source.old) (I.unread source.new) read × Appends (O.taken sink.old) (O.taken sink.new) written
-        × ((now : PassAndTransaction) × (now.pass ≡ pass.new)
-        × Talk (2 ^ 20) (context_of W.opening (handshake_of admission.now.asked.now number)) (Means W.opening W.limits) ConnectionState.New (none_open pass.old) read written end now)) }
-    // With no other session's commit between, it is a conversation with one database.
-    ensures alone { IfOk result (λ end. NoOthers pass.old pass.new → (read : List ℕ) × (written : List ℕ)
-        × Consumes (I.unread source.old) (I.unread source.new) read × Appends (O.taken sink.old) (O.taken sink.new) written
-        × ((now : Alone W.opening) × (now.kept.pass ≡ pass.new)
-        × Talk (2 ^ 20) (alone_context W.opening (handshake_of admission.now.asked.now number)) (MeansAlone W.opening W.limits) ConnectionState.New (alone_first W.opening pass.old) read written end now)) }
+    ensures talk { HasTalkedWhole W.opening W.limits (handshake_of admission.now.asked.now number) pass.old pass.new (I.unread source.old) (I.unread source.new) (O.taken sink.old) (O.taken sink.new) result }
+    ensures alone { HasTalkedAlone W.opening W.limits (handshake_of admission.now.asked.now number) pass.old pass.new (I.unread source.old) (I.unread source.new) (O.taken sink.old) (O.taken sink.new) result }
     ensures at_end { IfOk result (λ end. IsByInput end → IsAtEnd (I.unread source.new)) }
-    // If the source failed, each payload that was read whole is answered, and nothing else was written.
-    ensures read { result ≡ Err SessionFault.Read → (read : List ℕ) × (written : List ℕ)
-        × Consumes (I.unread source.old) (I.unread source.new) read × Appends (O.taken sink.old) (O.taken sink.new) written
-        × ((now : PassAndTransaction) × (now.pass ≡ pass.new)
-        × IsUnfinished (2 ^ 20) (context_of W.opening (handshake_of admission.now.asked.now number)) (Means W.opening W.limits) ConnectionState.New (none_open pass.old) read written now) }
-    // A piece that was read and for which there is no memory counts as not read.
-    ensures memory { result ≡ Err SessionFault.Memory → (read : List ℕ) × (piece : List ℕ) × (written : List ℕ)
-        × Consumes (I.unread source.old) (I.unread source.new) (read ++ piece) × Appends (O.taken sink.old) (O.taken sink.new) written
-        × ((now : PassAndTransaction) × (now.pass ≡ pass.new)
-        × IsUnfinished (2 ^ 20) (context_of W.opening (handshake_of admission.now.asked.now number)) (Means W.opening W.limits) ConnectionState.New (none_open pass.old) read written now) }
-    // If the sink failed, a front of the payloads is answered, each once, and the sink took a front of the replies.
-    ensures write { result ≡ Err SessionFault.Write → (read : List ℕ) × (written : List ℕ)
-        × Consumes (I.unread source.old) (I.unread source.new) read × Appends (O.taken sink.old) (O.taken sink.new) written
-        × ((now : PassAndTransaction) × (now.pass ≡ pass.new)
-        × HasBrokenOff (2 ^ 20) (context_of W.opening (handshake_of admission.now.asked.now number)) (Means W.opening W.limits) ConnectionState.New (none_open pass.old) read written now) }
+    ensures read { HasStoppedReading W.opening W.limits (handshake_of admission.now.asked.now number) pass.old pass.new (I.unread source.old) (I.unread source.new) (O.taken sink.old) (O.taken sink.new) result }
+    ensures memory { HasStoppedForMemory W.opening W.limits (handshake_of admission.now.asked.now number) pass.old pass.new (I.unread source.old) (I.unread source.new) (O.taken sink.old) (O.taken sink.new) result }
+    ensures write { HasStoppedWriting W.opening W.limits (handshake_of admission.now.asked.now number) pass.old pass.new (I.unread source.old) (I.unread source.new) (O.taken sink.old) (O.taken sink.new) result }
     ensures source_count { I.failures source.new ≡ read_failures_after result (I.failures source.old) }
     ensures sink_count { O.failures sink.new ≡ write_failures_after result (O.failures sink.old) }
 {

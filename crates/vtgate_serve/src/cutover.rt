@@ -114,21 +114,27 @@ fn are_same<W: World, J: Naming>(
     parts.len() == others.len()
 }
 
+/// How it was before a cutover: the parts of the partition that served, and the buffer's turn.
+#[derive(Drop)]
+struct Before<'b, W: World, J: Naming> {
+    parts: &'b [ShardReference<Shard<W, J>>],
+    turn: u64,
+}
+
 // One look.
 fn look<W: World, J: Naming, R: Wait>(
     rt: &R,
     serving: &Serving<Shard<W, J>>,
     buffer: &Buffer,
-    parts: &[ShardReference<Shard<W, J>>],
-    turn: u64,
+    before: &Before<'_, W, J>,
     now: Duration,
     times: &mut Times,
 ) {
     times.note_waiting(buffer.waiting(rt), now);
-    times.note_modes(modes_of(rt, parts), now);
-    let is_published = !are_same(serving.current().parts(), parts);
+    times.note_modes(modes_of(rt, before.parts), now);
+    let is_published = !are_same(serving.current().parts(), before.parts);
     note(&mut times.published, is_published, now);
-    note(&mut times.released, buffer.turn(rt) > turn, now);
+    note(&mut times.released, buffer.turn(rt) > before.turn, now);
 }
 
 // Looks until no cutover is under way.
@@ -138,14 +144,16 @@ fn times_of<W: World, J: Naming, R: Wait + Clock>(
     buffer: &Buffer,
     progress: &ServeProgress,
 ) -> Times {
-    let parts = serving.current().parts();
-    let turn = buffer.turn(rt);
+    let before = Before {
+        parts: serving.current().parts(),
+        turn: buffer.turn(rt),
+    };
     let start = Instant::now(rt).ok();
     let mut times = Times::new();
     for _ in rt.forever() {
         let is_last = !progress.is_switching() || !progress.is_under_way();
         let now = events::time_since(rt, start);
-        look(rt, serving, buffer, parts, turn, now, &mut times);
+        look(rt, serving, buffer, &before, now, &mut times);
         progress.see_switch();
         if is_last {
             return times;

@@ -17,11 +17,12 @@ mod ports;
 mod progress;
 mod schema_faults;
 mod serve;
+mod server;
 mod statements;
 mod waits;
 
 pub use admin_client::{BrokenOff, LONGEST_LINE, talk};
 pub use admission::{Admission, admission_of};
 pub use connection::serve_connection;
-pub use ports::Ports;
-pub use serve::{ServeConfig, config_of, run_serve, serve_opened};
+pub use ports::{Ports, ServeConfig, config_of};
+pub use serve::{run_serve, serve_opened};

@@ -1,6 +1,7 @@
 //! The two ports, and who serves them.
 ghost use denote.Param.Send.{IsSync};
-ghost use Rattle.std.specs.Prelude.{◌≡◌, [], IfErr, OnOk};
+ghost use Rattle.std.specs.Prelude.{◌≡◌, [], None, IfOk, IfErr, OnOk};
+ghost use Rattle.journal.specs.Views.{new_pass};
 ghost use Rattle.std.specs.Io.KnownBytes.{Appends};
 ghost use Rattle.opening.specs.Empty.{sharded_keyspace};
 ghost use Rattle.admin.specs.AdminAnswers.{keyspace_of};
@@ -10,10 +11,11 @@ ghost use Rattle.vtgate_serve.specs.Served.{listening_text};
 
 use crate::acceptor::Acceptor;
 use crate::admin_port::serve_admin;
-use crate::admission::Admission;
+use crate::admission::{Admission, admission_of};
 use crate::connection::{Connection, serve_socket};
 use crate::events::Start;
 use crate::progress::ServeProgress;
+use crate::server::Server;
 use crate::{census, events};
 use admin::{Administrator, widest_limits};
 use connection_workers::run;
@@ -74,6 +76,28 @@ pub fn bind<R: Log + Net<Listener = TcpListener, Stream = TcpStream>>(
     Ok(Ports { clients, admin })
 }
 
+/// What a server needs: whom it lets in, as the words ask, and its ports.
+#[derive(Drop)]
+pub struct ServeConfig<'s> {
+    pub admission: Admission<'s>,
+    pub ports: Ports,
+}
+
+/// What a server needs that serves on the ports.
+pub fn config_of<'s>(
+    alloc: Global,
+    asked: &'s ServeArgs<'s>,
+    ports: Ports,
+) -> Result<ServeConfig<'s>, RunFault>
+    ensures asked { IfOk result (λ s. s.admission.asked.now ≡ asked.now) }
+    ensures fault { IfErr result (λ f. status_of f ≡ FAILURE) }
+{
+    match admission_of(alloc, asked) {
+        Ok(admission) => Ok(ServeConfig { admission, ports }),
+        Err(fault) => Err(fault),
+    }
+}
+
 /// After how many connections it ends.
 fn last_connection(asked: &ServeArgs<'_>) -> u32
     ensures { result ≡ last_of asked.now.connections }
@@ -130,19 +154,16 @@ fn serve_clients<
 
 // Serves the admin port until the last connection is served, and returns whether it was.
 fn serve_operators<W: World + Send + Sync, J: Naming + Send + Sync, G: Gate, R: Wait + Clock + Log>(
-    rt: &R,
-    alloc: Global,
-    engine: &Engine<W, J, G>,
+    server: &Server<'_, W, J, G, R>,
     administrator: &mut Administrator<W, J>,
     pass: &mut ShardPass<W, J>,
     listener: &TcpListener,
-    progress: &ServeProgress,
 ) -> Result<(), RunFault>
-    requires home { keyspace_of administrator.old ≡ sharded_keyspace engine.now }
+    requires home { keyspace_of administrator.old ≡ sharded_keyspace server.now.engine.now }
     ensures fault { IfErr result (λ f. status_of f ≡ FAILURE) }
 {
-    serve_admin(rt, alloc, engine, administrator, pass, listener, progress);
-    if progress.is_served() {
+    serve_admin(server, administrator, pass, listener);
+    if server.progress.is_served() {
         Ok(())
     } else {
         Err(RunFault::Failed)
@@ -156,24 +177,25 @@ fn serve_both<
     G: Gate,
     R: Threads + Wait + Sync + Clock + Log,
 >(
-    rt: &R,
-    alloc: Global,
-    engine: &Engine<W, J, G>,
-    admission: &Admission<'_>,
+    server: &Server<'_, W, J, G, R>,
     acceptor: Acceptor<'_, W, J>,
-    operators: &TcpListener,
-    progress: &ServeProgress,
     administrator: &mut Administrator<W, J>,
     controller: &mut ShardPass<W, J>,
+    operators: &TcpListener,
 ) -> Result<(), RunFault>
-    requires home { keyspace_of administrator.old ≡ sharded_keyspace engine.now }
+    requires home { keyspace_of administrator.old ≡ sharded_keyspace server.now.engine.now }
     ensures fault { IfErr result (λ f. status_of f ≡ FAILURE) }
 {
+    let rt = server.rt;
+    let alloc = server.alloc;
+    let engine = server.engine;
+    let admission = server.admission;
+    let progress = server.progress;
     thread::scope(
         thread::scope_env(),
         rt,
         move |scope| -> Result<(), RunFault>
-            requires { IsSync R.row × IsSync G.row × (keyspace_of administrator.now ≡ sharded_keyspace engine.now) }
+            requires { IsSync R.row × IsSync G.row × (keyspace_of administrator.now ≡ sharded_keyspace server.now.engine.now) }
             ensures { IfErr result (λ f. status_of f ≡ FAILURE) }
         {
             if scope
@@ -193,15 +215,7 @@ fn serve_both<
                     { census::watch(rt, engine, progress) },
                 );
             }
-            serve_operators(
-                rt,
-                alloc,
-                engine,
-                administrator,
-                controller,
-                operators,
-                progress,
-            )
+            serve_operators(server, administrator, controller, operators)
         },
     )
 }
@@ -248,45 +262,6 @@ fn threads_beside<R: Log>(rt: &R, workers: u32) -> u32 {
     workers.saturating_add(1).saturating_add(watching)
 }
 
-// Serves the connections of a listener, and with them the admin port.
-fn serve_opened_ports<
-    'p,
-    W: World + Send + Sync,
-    J: Naming + Send + Sync,
-    G: Gate,
-    R: Threads + Wait + Sync + Clock + Log,
->(
-    rt: &R,
-    alloc: Global,
-    engine: &Engine<W, J, G>,
-    admission: &Admission<'_>,
-    ports: &'p Ports,
-    progress: &'p ServeProgress,
-    opener: Opener<ShardLaw<W>, J>,
-    pass: ShardPass<W, J>,
-    mut administrator: Administrator<W, J>,
-    mut controller: ShardPass<W, J>,
-) -> Result<(), RunFault>
-    requires home { keyspace_of administrator ≡ sharded_keyspace engine.now }
-    requires unopened { opener ≡ 0 }
-    requires unseen { pass.seen ≡ [] }
-    ensures fault { IfErr result (λ f. status_of f ≡ FAILURE) }
-{
-    let last = last_connection(admission.asked);
-    let acceptor = Acceptor::new(&ports.clients, progress, opener, pass, last);
-    serve_both(
-        rt,
-        alloc,
-        engine,
-        admission,
-        acceptor,
-        &ports.admin,
-        progress,
-        &mut administrator,
-        &mut controller,
-    )
-}
-
 // Logs that clients can connect, and to what.
 fn tell_started<W: World + Send + Sync, J: Naming + Send + Sync, G: Gate, R: Log>(
     rt: &R,
@@ -303,9 +278,36 @@ fn tell_started<W: World + Send + Sync, J: Naming + Send + Sync, G: Gate, R: Log
     events::started(rt, start);
 }
 
+// Tells that clients can connect, if all threads can be started.
+fn begin_serving<
+    W: World + Send + Sync,
+    J: Naming + Send + Sync,
+    G: Gate,
+    R: Threads + Wait + Sync + Clock + Log,
+    O: Sink,
+>(rt: &R, asked: &ServeArgs<'_>, engine: &Engine<W, J, G>, output: &mut O) -> Result<(), RunFault>
+    ensures told { OnOk result (Appends (O.taken output.old) (O.taken output.new) listening_text) }
+    ensures fault { IfErr result (λ f. status_of f ≡ FAILURE) }
+{
+    if !can_start(rt, threads_beside(rt, asked.workers)) {
+        return Err(RunFault::Failed);
+    }
+    tell_listening(output)?;
+    tell_started(rt, asked, engine);
+    Ok(())
+}
+
+/// What a router begins with beside its engine: the administrator of its sharded keyspace, the opener of its sessions, and a first pass.
+#[derive(Drop)]
+pub struct Beginning<W: World, J: Naming> {
+    pub administrator: Administrator<W, J>,
+    pub opener: Opener<ShardLaw<W>, J>,
+    pub pass: ShardPass<W, J>,
+}
+
 /// Serves the connections that clients open, in threads of their own, and with them the admin port, until the last connection is served. The
 /// administrator is that of the engine's sharded keyspace. No session was opened before, and nobody has committed.
-pub fn serve_ports<
+pub fn serve_router<
     W: World + Send + Sync,
     J: Naming + Send + Sync,
     G: Gate,
@@ -315,37 +317,41 @@ pub fn serve_ports<
     rt: &R,
     alloc: Global,
     engine: &Engine<W, J, G>,
-    admission: &Admission<'_>,
-    ports: &Ports,
-    opener: Opener<ShardLaw<W>, J>,
-    pass: ShardPass<W, J>,
-    administrator: Administrator<W, J>,
-    controller: ShardPass<W, J>,
+    beginning: Beginning<W, J>,
+    config: &ServeConfig<'_>,
     output: &mut O,
 ) -> Result<(), RunFault>
-    requires home { keyspace_of administrator ≡ sharded_keyspace engine.now }
-    requires unopened { opener ≡ 0 }
-    requires unseen { pass.seen ≡ [] }
+    requires home { keyspace_of beginning.administrator ≡ sharded_keyspace engine.now }
+    requires unopened { beginning.opener ≡ 0 }
+    requires unseen { beginning.pass ≡ new_pass [] None }
     ensures told { OnOk result (Appends (O.taken output.old) (O.taken output.new) listening_text) }
     ensures fault { IfErr result (λ f. status_of f ≡ FAILURE) }
 {
-    let asked = admission.asked;
-    if !can_start(rt, threads_beside(rt, asked.workers)) {
+    let asked = config.admission.asked;
+    let Beginning {
+        mut administrator,
+        opener,
+        mut pass,
+    } = beginning;
+    let Ok(mut controller) = pass.split() else {
         return Err(RunFault::Failed);
-    }
-    tell_listening(output)?;
-    tell_started(rt, asked, engine);
+    };
+    begin_serving(rt, asked, engine, output)?;
     let progress = ServeProgress::new(asked.workers);
-    serve_opened_ports(
+    let last = last_connection(asked);
+    let acceptor = Acceptor::new(&config.ports.clients, &progress, opener, pass, last);
+    let server = Server {
         rt,
         alloc,
         engine,
-        admission,
-        ports,
-        &progress,
-        opener,
-        pass,
-        administrator,
-        controller,
+        admission: &config.admission,
+        progress: &progress,
+    };
+    serve_both(
+        &server,
+        acceptor,
+        &mut administrator,
+        &mut controller,
+        &config.ports.admin,
     )
 }

@@ -1,28 +1,25 @@
 //! What `vtgate serve` reads, and what it serves over.
-ghost use Rattle.std.specs.Prelude.{◌≡◌, ◌≢◌, ◌≤◌, ℕ, List, [], None, IsTrue, IfOk, IfErr, OnOk};
+ghost use Rattle.std.specs.Prelude.{◌≡◌, ◌≢◌, ◌≤◌, ℕ, List, IsTrue, IfOk, IfErr, OnOk};
 ghost use Rattle.std.specs.Io.KnownBytes.{Appends};
 ghost use Rattle.keyrange.specs.declared.KeyRange.{KeyRange};
 ghost use Rattle.vschema.specs.WellFormed.{is_vschema};
-ghost use Rattle.journal.specs.Views.{new_pass};
 ghost use Rattle.shard_law.specs.Entries.{most_limits};
-ghost use Rattle.opening.specs.Empty.{opening_of, sharded_keyspace, FitRanges};
-ghost use Rattle.admin.specs.AdminAnswers.{keyspace_of};
+ghost use Rattle.opening.specs.Empty.{opening_of, FitRanges};
 ghost use Rattle.vtgate_setup.specs.ServeArgs.{ServeArgsView, IsServeCommand};
 ghost use Rattle.vtgate_setup.specs.Inputs.{HasDeclared};
 ghost use Rattle.vtgate_setup.specs.Statuses.{IsWrong, TellsNone, status_of};
 ghost use Rattle.vtgate_lines.specs.Partitions.{NamesPartition};
 ghost use Rattle.vtgate_serve.specs.Served.{HasRunServer, listening_text};
 
-use crate::admission::{Admission, admission_of};
-use crate::ports::{Ports, bind, serve_ports};
+use crate::ports::{Beginning, ServeConfig, bind, config_of, serve_router};
 use crate::{events, schema_faults};
-use admin::{Administrator, administered_router, widest_limits};
-use journal::{Naming, Opened, Opener};
+use admin::{administered_router, widest_limits};
+use journal::{Naming, Opened};
 use keyrange::KeyRange;
 use log::Log;
-use route_engine::{Engine, Gate, Open};
+use route_engine::{Gate, Open};
 use session::{Sink, Source};
-use shard::{ShardLaw, ShardPass, World};
+use shard::{ShardLaw, World};
 use std::alloc::Global;
 use std::marker::Brand;
 use std::net::{Net, TcpListener, TcpStream};
@@ -35,69 +32,8 @@ use vtgate_setup::{
     read_schema_or_text, read_words, refuse_plainly,
 };
 
-/// What a server needs: whom it lets in, as the words ask, and its ports.
-#[derive(Drop)]
-pub struct ServeConfig<'s> {
-    pub admission: Admission<'s>,
-    pub ports: Ports,
-}
-
-/// What a server needs that serves on the ports.
-pub fn config_of<'s>(
-    alloc: Global,
-    asked: &'s ServeArgs<'s>,
-    ports: Ports,
-) -> Result<ServeConfig<'s>, RunFault>
-    ensures asked { IfOk result (λ s. s.admission.asked.now ≡ asked.now) }
-    ensures fault { IfErr result (λ f. status_of f ≡ FAILURE) }
-{
-    match admission_of(alloc, asked) {
-        Ok(admission) => Ok(ServeConfig { admission, ports }),
-        Err(fault) => Err(fault),
-    }
-}
-
-// Serves by the engine and its administrator. No session was opened before, and nobody has committed.
-fn serve_router<
-    W: World + Send + Sync,
-    J: Naming + Send + Sync,
-    G: Gate,
-    R: Threads + Wait + Sync + Clock + Log,
-    O: Sink,
->(
-    rt: &R,
-    alloc: Global,
-    engine: &Engine<W, J, G>,
-    administrator: Administrator<W, J>,
-    opener: Opener<ShardLaw<W>, J>,
-    mut pass: ShardPass<W, J>,
-    config: &ServeConfig<'_>,
-    output: &mut O,
-) -> Result<(), RunFault>
-    requires home { keyspace_of administrator ≡ sharded_keyspace engine.now }
-    requires unopened { opener ≡ 0 }
-    requires unseen { pass ≡ new_pass [] None }
-    ensures told { OnOk result (Appends (O.taken output.old) (O.taken output.new) listening_text) }
-    ensures fault { IfErr result (λ f. status_of f ≡ FAILURE) }
-{
-    match pass.split() {
-        Ok(controller) => serve_ports(
-            rt,
-            alloc,
-            engine,
-            &config.admission,
-            &config.ports,
-            opener,
-            pass,
-            administrator,
-            controller,
-            output,
-        ),
-        Err(_) => Err(RunFault::Failed),
-    }
-}
-
-/// Serves over the VSchema and the ranges in the journal that was opened. The gate wraps each shard's read.
+/// Serves over the VSchema and the ranges in the journal that was opened. The gate wraps each shard's read. The clauses tie the VSchema,
+/// the ranges and the journal to the world, so that they are handed over one by one.
 pub fn serve_opened<
     W: World + Send + Sync,
     J: Naming + Send + Sync,
@@ -126,44 +62,21 @@ pub fn serve_opened<
     let waiting = u64::from(asked.buffer);
     let limits = widest_limits();
     match administered_router::<W, J, G>(alloc, schema, ranges, limits, opened, waiting, gate) {
-        Ok((engine, administrator, opener, pass)) => serve_router(
-            rt,
-            alloc,
-            &engine,
-            administrator,
-            opener,
-            pass,
-            config,
-            output,
-        ),
+        Ok((engine, administrator, opener, pass)) => {
+            let beginning = Beginning {
+                administrator,
+                opener,
+                pass,
+            };
+            serve_router(rt, alloc, &engine, beginning, config, output)
+        }
         Err(_) => Err(RunFault::Failed),
     }
 }
 
-// Serves over a router of this VSchema and these ranges, whose tables are empty.
-fn serve_in_world<W: World + Send + Sync, R: Threads + Wait + Sync + Clock + Log, O: Sink>(
-    rt: &R,
-    alloc: Global,
-    schema: VSchema,
-    ranges: &[KeyRange],
-    config: &ServeConfig<'_>,
-    output: &mut O,
-) -> Result<(), RunFault>
-    requires opening { W.opening ≡ opening_of schema ranges.now }
-    requires limits { W.limits ≡ most_limits }
-    requires schema { IsTrue (is_vschema schema) }
-    requires ranges { FitRanges schema ranges.now }
-    ensures told { OnOk result (Appends (O.taken output.old) (O.taken output.new) listening_text) }
-    ensures fault { IfErr result (λ f. status_of f ≡ FAILURE) }
-{
-    let Ok(opened) = Opened::<ShardLaw<W>>::new(alloc) else {
-        return Err(RunFault::Failed);
-    };
-    serve_opened::<W, Brand, Open, R, O>(rt, alloc, schema, ranges, opened, Open, config, output)
-}
-
-// Binds the ports, and serves over the VSchema and the ranges.
-fn serve_over<
+// Binds the ports, and serves over a router of this VSchema and these ranges, whose tables are empty.
+fn serve_in_world<
+    W: World + Send + Sync,
     R: Threads + Wait + Sync + Clock + Log + Net<Listener = TcpListener, Stream = TcpStream>,
     O: Sink,
 >(
@@ -174,15 +87,22 @@ fn serve_over<
     ranges: &[KeyRange],
     output: &mut O,
 ) -> Result<(), RunFault>
+    requires opening { W.opening ≡ opening_of schema ranges.now }
+    requires limits { W.limits ≡ most_limits }
     requires schema { IsTrue (is_vschema schema) }
     requires ranges { FitRanges schema ranges.now }
     ensures told { OnOk result (Appends (O.taken output.old) (O.taken output.new) listening_text) }
     ensures fault { IfErr result (λ f. status_of f ≡ FAILURE) }
 {
     let ports = bind(rt, asked.address, asked.admin)?;
+    let Ok(opened) = Opened::<ShardLaw<W>>::new(alloc) else {
+        return Err(RunFault::Failed);
+    };
     match config_of(alloc, asked, ports) {
         Err(fault) => Err(fault),
-        Ok(config) => serve_in_world::<Brand, R, O>(rt, alloc, schema, ranges, &config, output),
+        Ok(config) => serve_opened::<W, Brand, Open, R, O>(
+            rt, alloc, schema, ranges, opened, Open, &config, output,
+        ),
     }
 }
 
@@ -226,42 +146,14 @@ fn served<
 {
     let ranges = ranges_of(alloc, asked.shards)?;
     let schema = read_told(rt, alloc, hashing, &ranges, input)?;
-    serve_over(rt, alloc, asked, schema, &ranges, output)
-}
-
-// Serves connections as the words ask, and gives the status.
-fn run_asked<
-    R: Threads + Wait + Sync + Clock + Log + Net<Listener = TcpListener, Stream = TcpStream>,
-    I: Source,
-    O: Sink,
-    E: Sink,
->(
-    rt: &R,
-    alloc: Global,
-    hashing: &Hashing,
-    asked: &ServeArgs<'_>,
-    input: &mut I,
-    output: &mut O,
-    errors: &mut E,
-) -> u8
-    ensures served { result ≡ SUCCESS → HasRunServer asked.now.shards (I.unread input.old) (I.unread input.new) (O.taken output.old) (O.taken output.new) }
-    // A wrong word is refused before anything is read.
-    ensures untouched { TellsNone asked.now.shards → input.new ≡ input.old }
-    ensures status { result ≤ 2 }
-    ensures wrong { result ≡ WRONG_WORDS → IsWrong asked.now.shards (I.unread input.old) (I.unread input.new) }
-{
-    if let Err(fault) = served(rt, alloc, hashing, asked, input, output) {
-        events::failed(rt, &fault);
-        return refuse_plainly(fault, output, errors);
-    }
-    SUCCESS
+    serve_in_world::<Brand, R, O>(rt, alloc, asked, schema, &ranges, output)
 }
 
 /// Serves connections as the words of the command line ask, under the VSchema that the whole input declares, and gives the status 0 after the
 /// last one. The status is 1 if a port can't be bound, which is printed, if no thread could be started, if a device fails and if
 /// there is no memory for what it runs over; and 2 if the word of the shards names no ranges, or more than 63 with an unsharded
 /// keyspace, and if the input declares no VSchema. Words that aren't those of `serve` are wrong: the usage is printed, and the status is 2.
-/// Groups are hashed by the key.
+/// Groups are hashed by the key. The clauses tell what became of each of the devices, which are handed over one by one.
 pub fn run_serve<
     R: Threads + Wait + Sync + Clock + Log + Net<Listener = TcpListener, Stream = TcpStream>,
     I: Source,
@@ -291,5 +183,9 @@ pub fn run_serve<
         let _ = errors.write(USAGE);
         return WRONG_WORDS;
     };
-    run_asked(rt, alloc, hashing, &asked, input, output, errors)
+    if let Err(fault) = served(rt, alloc, hashing, &asked, input, output) {
+        events::failed(rt, &fault);
+        return refuse_plainly(fault, output, errors);
+    }
+    SUCCESS
 }

@@ -10,7 +10,7 @@ use Rattle.vtgate_script.proofs.script.scripted.Goals as goal
 pub returns-clause-ok : goal.returns-clause-ok
 returns-clause-ok g c =
     let declared = c.in_ok-schema.ensures.first in
-    on_ok c.run_over.result c.run_over.ensures.given (λ given. record {
+    on_ok c.run_in_world.result c.run_in_world.ensures.given (λ given. record {
       text = c.in_ok-text.text.items;
       consumed = c.in_ok-text.ensures.read;
       end = c.in_ok-text.ensures.end;

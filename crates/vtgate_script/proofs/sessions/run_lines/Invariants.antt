@@ -8,7 +8,7 @@ use Rattle.vtgate_script.proofs.sessions.run_lines.Given as goal
 abbrev pub invariant-loop-line : goal.invariant-loop-line
 invariant-loop-line g l = record {
   run : AreRun g.W.World.opening l.initial.administrator l.lines (g.O.Sink.taken l.initial.output) l.sessions l.administrator l.rest (g.O.Sink.taken l.output);
-  home : keyspace_of l.administrator ≡ sharded_keyspace l.engine;
+  home : keyspace_of l.administrator ≡ sharded_keyspace l.context.engine.now;
 }
 
 abbrev pub decreases-loop-line : goal.decreases-loop-line

@@ -11,7 +11,6 @@ loop-init g c = record {
     nothing_yet g.W.World.opening g.W.World.limits _ _ _ c.requires.none,
   );
   keyspace = refl;
-  buffer = refl;
 }
 
 pub loop-preserved : goal.loop-preserved
@@ -24,7 +23,6 @@ loop-preserved g c =
         Consumes-trans _ _ _ so.0 piece.0 so.1 piece.1,
         piece_told g.W.World.opening g.W.World.limits _ (record { pass = c.loop.pass; workflow = c.loop.administrator }) _ so.0 _ piece.0 _ _ _ _ so.2 piece.2,
       );
-      buffer = c.answer_next.ensures.room ∙ c.loop.invariant.buffer;
       keyspace = c.answer_next.ensures.keyspace ∙ c.loop.invariant.keyspace;
     }
 

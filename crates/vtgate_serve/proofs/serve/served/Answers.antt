@@ -19,14 +19,14 @@ returns-clause-untouched g c none =
 pub returns-clause-ok : goal.returns-clause-ok
 returns-clause-ok g c =
     let is : c.asked.inside.shards.now ≡ c.args.asked.now.shards = ap (λ (a : ServeArgsView). a.shards) c.asked.view_is in
-    on_ok_weaker c.serve_over.result (λ printed. record {
+    on_ok_weaker c.serve_in_world.result (λ printed. record {
       schema = c.in_ok-schema.schema;
       ranges = c.in_ok-ranges.ranges.items;
       read = c.in_ok-schema.ensures.read;
       partition = subst (λ (s : List ℕ). NamesPartition s c.in_ok-ranges.ranges.items) is c.in_ok-ranges.ensures.told;
       fit = rw (sym c.deref.ensures.value) c.in_ok-schema.ensures.fit;
       printed = printed;
-    }) c.serve_over.ensures.told
+    }) c.serve_in_world.ensures.told
 
 pub returns-in_err-ranges-clause-fault : goal.returns-in_err-ranges-clause-fault
 returns-in_err-ranges-clause-fault g c =

@@ -1,6 +1,6 @@
 use denote.Param.Send.{sendable}
 use Rattle.shard_run.proofs.Sent.{entry_send}
-use Rattle.vtgate_serve.proofs.serve.serve_router.Goals as goal
+use Rattle.vtgate_serve.proofs.ports.serve_router.Goals as goal
 
 -- Another pass may be split off,
 -- since an entry may go to another thread.
