@@ -18,7 +18,7 @@ if command -v rustc > /dev/null; then
     lookup=("$work/lookup")
 fi
 python3 "$top/bench/tables.py" "$(realpath "$program")" "${lookup[@]}" > "$work/page"
-for other in serve joins worst split load threads before instructions; do
+for other in serve joins worst split load threads before log instructions settings; do
     sed -n "/^<!-- bench\/$other.sh begins/,/^<!-- bench\/$other.sh ends/p" "$document" >> "$work/page"
 done
 mv "$work/page" "$document"

@@ -24,6 +24,18 @@ KINDS = {
     "Among": "two rows by IN",
 }
 
+# The kinds of its dearest statements, likewise.
+DEAREST = {
+    "IN": "4,095 rows by IN",
+    "scatter": "all rows",
+    "ORDER BY": "all rows in an order",
+    "aggregates": "aggregates of all rows",
+    "GROUP BY the key": "100,000 groups by the key",
+    "GROUP BY": "100,000 groups",
+    "INSERT": "an INSERT of 1,365 rows",
+    "UPDATE": "an UPDATE of 4,094 rows",
+}
+
 
 def sections(text):
     """Returns the tables below each heading, each a list of rows by the names of the columns."""
@@ -70,6 +82,9 @@ def against_mariadb(page):
     for kind, words in KINDS.items():
         for rows in page.get(kind, []):
             found[words] = numbers(rows, "router : MariaDB")
+    for row in page.get("The dearest statement of each kind", [[]])[0]:
+        if row["kind"] in DEAREST and "ratio" in row:
+            found[DEAREST[row["kind"]]] = numbers([row], "ratio")
     joins = {row["join"]: numbers([row], "ratio") for rows in page.get("Joins", [])[:1] for row in rows}
     found["a join"] = [it for values in joins.values() for it in values if it >= 1]
     found |= {f"the join of {name}": values for name, values in joins.items() if values and values[0] < 1}

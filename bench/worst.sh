@@ -1,6 +1,7 @@
 #!/usr/bin/env bash
-# Measures the dearest statement of each kind through a socket: time, bytes of the reply, and the most memory that the router takes for it.
-# Prints the table; with --write puts it into docs/PERFORMANCE.md.
+# Measures the dearest statement of each kind through a socket: time, bytes of the reply, the most memory that the router takes for it, and the time
+# that MariaDB's server takes for the same. Prints the table; with --write puts it into docs/PERFORMANCE.md. Installs Debian's MariaDB server if there is
+# none, and runs it in a folder of its own.
 # Usage: bench/worst.sh [--write] [--rows N] [--rounds N] [PROGRAM]   (proved and built if none is given)
 set -euo pipefail
 top=$(cd "$(dirname "$0")/.." && pwd)
@@ -15,5 +16,7 @@ while [ $# -gt 0 ]; do
     esac
     shift
 done
+have_packages mariadb-server mariadb-client
 program=$(program_of vtgate_main "$program")
+choices+=(--version "$(dpkg-query -W -f '${Version}' mariadb-server)")
 python3 "$top/bench/worst/measure.py" "$(realpath "$program")" "${choices[@]}"
