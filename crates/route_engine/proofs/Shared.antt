@@ -15,6 +15,8 @@ use Rattle.shard.specs.declared.world.World as world
 use Rattle.shard.specs.contracts.locked.Shard as locked
 use Rattle.shard.specs.contracts.locked.Shard.TheInside as locked_inside
 use Rattle.shard.specs.contracts.locked.ShardSeated.TheImpl as seated
+use Rattle.shard.specs.contracts.state.ShardState as state
+use Rattle.shard.proofs.state_lock.StateLock.TheSendSync as lock
 use Rattle.shard.specs.contracts.world.ShardLawLaw.TheImpl as laws
 use Rattle.shard_calls.proofs.Sent.{state_send, shard_shared}
 
@@ -23,7 +25,7 @@ module _ (W J : RattleType) (w : world.Ghosts W.Denot) (j : naming.Ghosts J.Deno
   shard_sent =
       view_send _ _ _ _ _
       (recorded_send (locked_inside.the_field W J w j).row _ _ (locked_inside.the_type W J w j).to_one
-      (struct_send (shape (locked_inside.the_type W J w j)) (search sendable, (place.the_field_send, (search (state_send W J w j, std.crosses, sendable), tt)))))
+      (struct_send (shape (locked_inside.the_type W J w j)) (search sendable, (place.the_field_send, (lock.the_field_send (state.the_row W J w j) (state_send W J w j), tt)))))
 
   partitions_sync : IsSync (serving.the_row (locked.the_row W J w j) (seated.ghosts W J w laws.no_dict j laws.no_dict))
   partitions_sync = sent_serving.the_sync (locked.the_row W J w j) (seated.ghosts W J w laws.no_dict j laws.no_dict) shard_sent (shard_shared W J w j)

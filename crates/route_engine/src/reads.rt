@@ -18,8 +18,8 @@ use planner::{Plan, Route, is_answer, is_plain, plan, point_route};
 use serving::{Partition, Seated, ShardReference};
 use shard::{Shard, ShardPass, World};
 use shard_calls::{
-    Answer, Gate, Gathered, GatheredAlone, Reply, Selected, ShardRead, gather, gather_alone,
-    job_for, jobs, only_needed, point_job, read_all, read_one,
+    Answer, Gate, Gathered, GatheredAlone, Reply, Selected, ShardRead, gather, jobs, only_needed,
+    piece_for, read_all, read_alone,
 };
 use sql_eval::narrow;
 use sql_tree::Item;
@@ -98,9 +98,8 @@ impl<W: World + Send + Sync, J: Naming + Send + Sync, G: Gate> Engine<W, J, G> {
     {
         // its parts are those of a partition
         let _ = read.partition.parts();
-        let job = job_for(alloc, pass, 0, part, read.table, read.plan)?;
-        let done = read_one(rt, alloc, &self.gate, job);
-        gather_alone(alloc, pass, done)
+        let piece = piece_for(alloc, read.table, read.plan, &part.range())?;
+        read_alone(rt, alloc, &self.gate, pass, part, piece.get())
     }
 
     // The rows of the plan's query over one shard, which alone it needs by the partition, and what the reply says of it; nothing if that
@@ -227,9 +226,7 @@ impl<W: World + Send + Sync, J: Naming + Send + Sync, G: Gate> Engine<W, J, G> {
         let Some(part) = lone_part(self.current(table.keyspace).parts(), table, &route) else {
             return Ok(None);
         };
-        let job = point_job(pass, part, table, query)?;
-        let done = read_one(rt, alloc, &self.gate, job);
-        match gather_alone(alloc, pass, done)? {
+        match read_alone(rt, alloc, &self.gate, pass, part, query)? {
             Some(gathered) if is_answer(query, gathered.rows.as_slice()) => {
                 let GatheredAlone { rows, reads } = gathered;
                 Ok(Some((rows, reads)))

@@ -3,6 +3,7 @@ ghost use Rattle.std.specs.Prelude.{true};
 ghost use Rattle.std.specs.Fn.{FnReturnsAt};
 ghost use Rattle.std.specs.Sync.Mutex.{mutex_guard_value};
 
+use crossbeam_utils::CachePadded;
 use std::hint;
 use std::sync::{Mutex, MutexGuard, Wait};
 
@@ -15,19 +16,19 @@ const PAUSES_BETWEEN_LOOKS: u32 = 16;
 /// A value under its lock.
 #[derive(Drop)]
 pub struct StateLock<T: Drop> {
-    value: Mutex<T>,
+    value: CachePadded<Mutex<T>>,
 }
 
 impl<T: Drop> StateLock<T> {
     pub(crate) fn new(value: T) -> StateLock<T> {
         StateLock {
-            value: Mutex::new(value),
+            value: CachePadded::new(Mutex::new(value)),
         }
     }
 
     /// The value, which no lock is over from now on.
     pub(crate) fn into_inner(self) -> T {
-        self.value.into_inner()
+        self.value.into_inner().into_inner()
     }
 
     /// The value, if nobody holds the lock.

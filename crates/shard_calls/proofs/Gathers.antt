@@ -157,12 +157,3 @@ stalled_at f o p now new pieces reads items rest x all is so_far longer held_up 
   held_up = held_up;
   seen = longer.other;
 }
-
--- the one reading is of a shard that doesn't serve
-pub stalled_alone : (g : ShardReply) (new : PassView Entry) → IsPrefix g.pass.seen new.seen → g.outcome ≡ Ok r.NotServing → IsStalled (g ∷ []) new
-stalled_alone g new seen held_up = record {
-  given = g;
-  there = Contains-from_In g (g ∷ []) (inl refl);
-  held_up = held_up;
-  seen = seen;
-}

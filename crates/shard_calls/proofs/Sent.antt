@@ -74,7 +74,7 @@ module _ (W J : RattleType) (w : world.Ghosts W.Denot) (j : naming.Ghosts J.Deno
   shard_shared =
       view_sync _ _ _ _ _
       (recorded_sync (locked_inside.the_field W J w j).row _ _ (locked_inside.the_type W J w j).to_one
-      (struct_sync (shape (locked_inside.the_type W J w j)) (search sendable, (place.the_field_sync, (search (state_send, std.crosses, sendable), tt)))))
+      (struct_sync (shape (locked_inside.the_type W J w j)) (search sendable, (place.the_field_sync, (search (state_send, std.crosses, sendable) depth 60 fits 20000, tt)))))
 
   pub job_send : (ℓ : _) → IsSend (job.the_row ℓ W J w j)
   job_send ℓ =

@@ -11,11 +11,10 @@ mod tx;
 
 pub use gate::{Gate, Open};
 pub use parts::{look_at_each, only_needed, shard_of};
-pub use pieces::Piece;
+pub use pieces::{Piece, piece_for};
 pub use reply::{Answer, Reply, Selected, ShardRead, Tried, counted};
 pub use scatter::{
-    Gathered, GatheredAlone, ReadJob, ReadResult, gather, gather_alone, job_for, jobs, point_job,
-    read_all, read_one,
+    Gathered, GatheredAlone, ReadJob, ReadResult, gather, jobs, read_all, read_alone,
 };
 pub use transactions::{
     closes, commit_at, ends, read_at, read_first, read_nothing, stays_open, write_at, write_first,

@@ -30,16 +30,6 @@ impl<'e> Model for Piece<'e> {
 }
 
 impl<'e> Piece<'e> {
-    /// A query that the shard is asked as it is.
-    pub(crate) fn whole(query: &'e Query) -> Piece<'e>
-        ensures { result ≡ query.now }
-    {
-        Piece {
-            whole: query,
-            own: None,
-        }
-    }
-
     /// The query.
     pub fn get(&self) -> &Query
         ensures { result.now ≡ self.now }
@@ -52,7 +42,7 @@ impl<'e> Piece<'e> {
 }
 
 /// What the shard of a range is asked. It is copied only under IN, where each shard gets its own members. Refuses only for want of memory.
-pub(crate) fn piece_for<'e>(
+pub fn piece_for<'e>(
     alloc: Global,
     table: &Table,
     plan: &'e Plan,

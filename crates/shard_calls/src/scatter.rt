@@ -1,16 +1,18 @@
 //! The shards that a query needs, read at once in threads of their own.
-ghost use Rattle.std.specs.Prelude.{◌≡◌, ◌++◌, ◌∷◌, [], ℕ, IfOk, OnOk, IfSome, IfNone, map, true};
+ghost use Rattle.std.specs.Prelude.{◌≡◌, ◌++◌, ◌∷◌, [], ℕ, List, IfOk, OnOk, IfSome, IfNone, map, true};
 ghost use Rattle.std.specs.List.{AllZip};
 ghost use Rattle.journal.specs.Runs.{IsLegal};
-ghost use Rattle.serving.specs.Partitions.{AreOf};
+ghost use Rattle.serving.specs.Partitions.{Seat, AreOf};
+ghost use Rattle.vschema.specs.declared.schema.Table.{Table as WrittenTable};
+ghost use Rattle.shard_run.specs.Runs.{answers_queries};
 ghost use Rattle.shard_law.specs.Entries.{MayFollow};
 ghost use Rattle.shard.specs.Seats.{place_at};
 ghost use Rattle.planner.specs.declared.plans.Plan.{Plan as WrittenPlan};
-ghost use Rattle.planner.specs.Plans.{piece_of};
-ghost use Rattle.shard_calls.specs.Answers.{HasGone};
-ghost use Rattle.shard_calls.specs.inner.Scatter.{asked, all_asked, IsReadingOf, outcome_rows, entries_in, IsGathered, AreConsecutive, IsStalled};
+ghost use Rattle.shard_calls.specs.Answers.{HasGone, IsHeldUp};
+ghost use Rattle.shard_calls.specs.inner.Scatter.{asked, all_asked, IsReadingOf, outcome_rows, entries_in, IsGathered, AreConsecutive, IsStalled, IsScattered, IsPieceAlone};
 
 use crate::gate::Gate;
+use crate::parts::shard_of;
 use crate::pieces::{Piece, piece_for};
 use crate::reply::ShardRead;
 use journal::Naming;
@@ -99,7 +101,7 @@ fn most_rows(table: &Table, query: &Query) -> usize {
 }
 
 /// What the part's shard is asked under this number, by a pass of its own.
-pub fn job_for<'e, W: World, J: Naming>(
+fn job_for<'e, W: World, J: Naming>(
     alloc: Global,
     pass: &mut ShardPass<W, J>,
     turn: usize,
@@ -129,28 +131,6 @@ pub fn job_for<'e, W: World, J: Naming>(
     }
 }
 
-/// What the part's shard is asked by a query that is its piece as it is, by a pass of its own.
-pub fn point_job<'e, W: World, J: Naming>(
-    pass: &mut ShardPass<W, J>,
-    part: &'e ShardReference<Shard<W, J>>,
-    table: &Table,
-    query: &'e Query,
-) -> Result<ReadJob<'e, W, J>, AllocError>
-    requires keyspace { part.now.2 ≡ table.now.keyspace }
-    ensures same { pass.new ≡ pass.old }
-    ensures asks { IfOk result (λ job. (plan : WrittenPlan) → piece_of table.now plan part.now.1 ≡ query.now
-        → record { slot = job.shard.now.0; place = place_at job.shard.now; query = job.query; pass = job.pass } ≡ asked table.now plan pass.old.seen part.now) }
-{
-    let pass = pass.split()?;
-    Ok(ReadJob {
-        turn: 0,
-        shard: part.shard(),
-        most: most_rows(table, query),
-        query: Piece::whole(query),
-        pass,
-    })
-}
-
 /// What the shards are asked that the plan needs, each under the next number and by a pass of its own.
 pub fn jobs<'e, W: World, J: Naming>(
     alloc: Global,
@@ -177,7 +157,7 @@ pub fn jobs<'e, W: World, J: Naming>(
 }
 
 /// A shard's answer, read by this thread.
-pub fn read_one<W: World, J: Naming, G: Gate>(
+fn read_one<W: World, J: Naming, G: Gate>(
     rt: &impl Wait,
     alloc: Global,
     gate: &G,
@@ -361,25 +341,28 @@ pub struct GatheredAlone {
     pub reads: Items<ShardRead>,
 }
 
-/// What `gather` gives of one shard: it makes no list of pieces.
-pub fn gather_alone<W: World, J: Naming>(
+/// What the part's shard gives for a query, read by the pass itself, and nothing if it doesn't serve. A pass that is split off for a reading adds a
+/// handle on what all sessions share, so a shard that is read alone is read without one. Refuses only for want of memory.
+pub fn read_alone<W: World, J: Naming, G: Gate>(
+    rt: &impl Wait,
     alloc: Global,
+    gate: &G,
     pass: &mut ShardPass<W, J>,
-    done: ReadResult<W, J>,
+    part: &ShardReference<Shard<W, J>>,
+    query: &Query,
 ) -> Result<Option<GatheredAlone>, AllocError>
     requires legal { IsLegal (MayFollow W.opening) pass.old.seen }
     ensures gone { HasGone W.opening pass.old pass.new }
-    ensures all { IfOk result (λ r. IfSome r (λ g. IsGathered W.opening (record { slot = done.slot; pass = done.pass; outcome = done.outcome } ∷ []) pass.old pass.new)) }
-    ensures rows { IfOk result (λ r. IfSome r (λ g. g.rows ≡ outcome_rows done.outcome)) }
-    ensures reads { IfOk result (λ r. IfSome r (λ g. g.reads ≡ record { slot = done.slot; entries = entries_in done.outcome } ∷ [])) }
-    ensures stalled { IfOk result (λ r. IfNone r (IsStalled (record { slot = done.slot; pass = done.pass; outcome = done.outcome } ∷ []) pass.new)) }
+    ensures ok { IfOk result (λ r. IfSome r (λ g. (t : WrittenTable) (plan : WrittenPlan) (seats : List Seat) → IsPieceAlone t plan seats part.now query.now
+        → IsScattered W.opening t plan pass.old (g.rows ∷ []) g.reads pass.new)) }
+    ensures stalled { IfOk result (λ r. IfNone r ((t : WrittenTable) (plan : WrittenPlan) (seats : List Seat) → IsPieceAlone t plan seats part.now query.now
+        → IsHeldUp W.opening t plan.route answers_queries pass.old.seen pass.new.seen)) }
 {
-    let ReadResult {
-        slot,
-        pass: other,
-        outcome,
-    } = done;
-    pass.join(other);
+    let shard = shard_of(part);
+    let slot = shard.slot();
+    gate.before(0);
+    let outcome = shard.read(rt, alloc, pass, query);
+    gate.after(0);
     match outcome {
         Ok(ReadOutcome::Rows(reading)) => {
             let Reading { rows, entries } = reading;

@@ -132,6 +132,13 @@ pub record IsScattered (o : Opening) (t : Table) (plan : Plan) (p : PassView Ent
   pub pieces_are : pieces ≡ map given_rows gs
   pub reads_are : reads ≡ map given_read gs
 
+-- by this partition the plan needs one seat alone, whose piece of it is this query
+pub record IsPieceAlone (t : Table) (plan : Plan) (seats : List Seat) (seat : Seat) (query : Query) : Type 0 where
+  pub partition : IsPartition seats
+  pub keyspace : seat.2 ≡ t.keyspace
+  pub alone : needed t plan.route seats ≡ seat ∷ []
+  pub piece : piece_of t plan seat.1 ≡ query
+
 -- what shards of a partition give for the plan can be joined
 abbrev pub CanJoinAll : Opening → Table → Plan → PassView Entry → Type 0
 CanJoinAll o t plan p =
