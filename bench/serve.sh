@@ -3,13 +3,13 @@
 # after the other in one run: point SELECTs, INSERTs, UPDATEs by key, a scatter over 4 shards, a mix, transactions, the first 10
 # rows, and two rows by IN, by 1 to 32 connections. Prints the tables; with --write puts them into docs/PERFORMANCE.md.
 # Usage: bench/serve.sh [--quick] [--write] [--kinds KIND,..] [--connections N,..] [--rounds N] [--seconds S] [--rows N] [PROGRAM]
-# PROGRAM is proved and built if none is given. Each server has 3 rounds of 1 second a cell; with --quick one of
+# PROGRAM is proved and built if none is given. Each server has 9 rounds of 0.35 seconds a cell; with --quick one of
 # 0.3, with 1, 4 and 32 connections alone. Needs a C compiler; installs Debian's MariaDB server if there is none, and runs it in a
 # folder of its own.
 set -euo pipefail
 top=$(cd "$(dirname "$0")/.." && pwd)
 . "$top/scripts/program.sh"
-kinds=point,insert,update,scatter,mix,transaction,first,among connections=1,2,4,8,16,32 rounds=3 seconds=1 rows=20000 document=() program=''
+kinds=point,insert,update,scatter,mix,transaction,first,among connections=1,2,4,8,16,32 rounds=9 seconds=0.35 rows=20000 document=() program=''
 while [ $# -gt 0 ]; do
     case $1 in
         --write) document=("$top/docs/PERFORMANCE.md") ;;

@@ -133,8 +133,13 @@ class Echo(Server):
         pass
 
 
+def middle(values):
+    return sorted(values)[len(values) // 2]
+
+
 def measure_cells(words, servers, kind, count):
-    """Asks each server in turn, some rounds long, and prints for each the round of the middle rate."""
+    """Asks each server in turn, some rounds long, and prints for each the round of the middle rate, and the middle of the router's ratios to it, each of
+    one round: the machine's speed changes within a run."""
     servers = [it for it in servers if kind in ECHOED or it.name != "echo"]
     results = [[] for _ in servers]
     for _ in range(words.rounds):
@@ -143,7 +148,8 @@ def measure_cells(words, servers, kind, count):
             line = server.load(words.load, "run", kind, count, str(words.seconds)).decode()
             rounds.append(tuple(map(int, line.split()))[:4])
     for server, rounds in zip(servers, results):
-        print(kind, count, server.name, *sorted(rounds)[len(rounds) // 2], flush=True)
+        ratio = middle([router[0] / other[0] for router, other in zip(results[0], rounds)])
+        print(kind, count, server.name, *middle(rounds), f"{ratio:.4f}", flush=True)
 
 
 def main():
@@ -151,8 +157,8 @@ def main():
     reader.add_argument("program")
     reader.add_argument("load")
     reader.add_argument("work", type=pathlib.Path)
-    reader.add_argument("--seconds", type=float, default=1)
-    reader.add_argument("--rounds", type=int, default=3)
+    reader.add_argument("--seconds", type=float, default=0.35)
+    reader.add_argument("--rounds", type=int, default=9)
     reader.add_argument("--rows", type=int, default=20000)
     reader.add_argument("--kinds", default=",".join(KINDS))
     reader.add_argument("--connections", default="1,2,4,8,16,32")

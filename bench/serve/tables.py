@@ -25,7 +25,8 @@ HEAD = """## The server
 
 Written by `bench/serve.sh` on {day}, on a machine of {cores} processors. One client program asks each server over loopback, one thread a
 connection, each statement once the last is answered. A cell is the round with the middle rate of {how}, after a quarter of a
-round that isn't counted; the three servers take turns. The router has 4 shards and 32 workers, and keeps rows in memory alone. MariaDB's
+round that isn't counted; the three servers take turns. The machine's speed changes within a run, so a ratio is taken in each round, and the
+middle one is shown. The router has 4 shards and 32 workers, and keeps rows in memory alone. MariaDB's
 server ({version}) has one InnoDB table for each of the router's, no binary log, and no flush at each commit. The echo
 answers each request with the bytes of the router's reply, and knows nothing else. Rates are statements a second, latencies microseconds;
 client and servers share the processors, so compare ratios, not figures.
@@ -38,18 +39,18 @@ OF_TRANSACTIONS = ("connections", "router", "50th", "99th", "conflicts", "MariaD
 def read_cells(path):
     cells = {}
     for line in path.read_text().splitlines():
-        kind, count, server, *numbers = line.split()
-        cells.setdefault(kind, {}).setdefault(int(count), {})[server] = tuple(map(int, numbers))
+        kind, count, server, *numbers, ratio = line.split()
+        cells.setdefault(kind, {}).setdefault(int(count), {})[server] = (*map(int, numbers), float(ratio))
     return cells
 
 
 def ratio(servers, name):
-    return f"{servers['router'][0] / servers[name][0]:.2f}"
+    return f"{servers[name][-1]:.2f}"
 
 
 def row_of(count, servers):
     row = [count]
-    for rate, half, most, _ in servers.values():
+    for rate, half, most, *_ in servers.values():
         row += [rate, f"{half / 1000:.0f}", f"{most / 1000:.0f}"]
     return row + [ratio(servers, name) for name in servers if name != "router"]
 
@@ -61,7 +62,7 @@ def columns_of(counts):
 def row_of_transactions(count, servers):
     row = [count]
     for name in ("router", "MariaDB"):
-        rate, half, most, conflicts = servers[name]
+        rate, half, most, conflicts, _ = servers[name]
         row += [rate, f"{half / 1000:.0f}", f"{most / 1000:.0f}", f"{conflicts / 10:.1f} %"]
     return row + [ratio(servers, "MariaDB")]
 
@@ -83,12 +84,11 @@ def section(cells, how, rows, version):
 def wishes(cells):
     """How far the point SELECTs are from what is wished of them."""
     points = cells.get("point", {})
-    rates = {count: {name: it[0] for name, it in servers.items()} for count, servers in points.items()}
-    if rates:
-        least, count = min((it["router"] / it["MariaDB"], count) for count, it in rates.items())
-        yield f"points: at least {least:.2f} times MariaDB's rate (at {count} connections); the wish is 1.5"
-    if 1 in rates:
-        yield f"points: {rates[1]['router'] / rates[1]['echo']:.2f} of the echo's rate with one connection; the wish is 0.7"
+    for name, wished in ("MariaDB", 2), ("echo", 0.7):
+        ratios = [(servers[name][-1], count) for count, servers in points.items()]
+        if ratios:
+            least, count = min(ratios)
+            yield f"points: at least {least:.2f} times the rate of {name} (at {count} connections); the wish is {wished}"
 
 
 def main():
