@@ -200,13 +200,18 @@ def again(server, text, first):
     return statistics.median(server.reply(text)[0] for _ in range(AGAIN))
 
 
+def reply_and_memory(router, text):
+    """The seconds until the whole reply has come, its bytes, and the most memory that the router took for it."""
+    before = router.memory("VmRSS")
+    router.forget()
+    seconds, count = router.reply(text)
+    return seconds, count, max(router.memory("VmHWM") - before, 0)
+
+
 def measure(program, other, text):
     """The router's seconds, the bytes of its reply, the most memory that it took, and MariaDB's seconds."""
     with Router(program, other.rows) as router:
-        before = router.memory("VmRSS")
-        router.forget()
-        first, count = router.reply(text)
-        memory = max(router.memory("VmHWM") - before, 0)
+        first, count, memory = reply_and_memory(router, text)
         seconds = again(router, text, first)
     other.fill()
     first, _ = other.reply(text)

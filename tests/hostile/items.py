@@ -30,7 +30,8 @@ def main():
         items = text.count(",") + 1
         held = {}
         for rows in (10, 100):
-            _, reply, most = measure.measure(sys.argv[1], rows, text)
+            with measure.Router(sys.argv[1], rows) as router:
+                _, reply, most = measure.reply_and_memory(router, text)
             held[rows] = (reply, most)
             print(f"{name}: {items} items over {rows} rows: {most / 2**20:.0f} MB at most, for a reply of {reply / 2**20:.0f} MB", flush=True)
             failed |= most > BYTES_OF_A_BYTE * reply + BYTES_OF_AN_ITEM * items
