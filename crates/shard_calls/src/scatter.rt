@@ -5,7 +5,7 @@ ghost use Rattle.journal.specs.Runs.{IsLegal};
 ghost use Rattle.serving.specs.Partitions.{Seat, AreOf};
 ghost use Rattle.vschema.specs.declared.schema.Table.{Table as WrittenTable};
 ghost use Rattle.shard_run.specs.Runs.{answers_queries};
-ghost use Rattle.shard_law.specs.Entries.{MayFollow};
+ghost use Rattle.shard_law.specs.Entries.{MayFollow, HasLooked};
 ghost use Rattle.shard.specs.Seats.{place_at};
 ghost use Rattle.planner.specs.declared.plans.Plan.{Plan as WrittenPlan};
 ghost use Rattle.shard_calls.specs.Answers.{HasGone, IsHeldUp};
@@ -352,7 +352,7 @@ pub fn read_alone<W: World, J: Naming, G: Gate>(
     query: &Query,
 ) -> Result<Option<GatheredAlone>, AllocError>
     requires legal { IsLegal (MayFollow W.opening) pass.old.seen }
-    ensures gone { HasGone W.opening pass.old pass.new }
+    ensures looked { HasLooked W.opening part.now.0 pass.old pass.new }
     ensures ok { IfOk result (λ r. IfSome r (λ g. (t : WrittenTable) (plan : WrittenPlan) (seats : List Seat) → IsPieceAlone t plan seats part.now query.now
         → IsScattered W.opening t plan pass.old (g.rows ∷ []) g.reads pass.new)) }
     ensures stalled { IfOk result (λ r. IfNone r ((t : WrittenTable) (plan : WrittenPlan) (seats : List Seat) → IsPieceAlone t plan seats part.now query.now
