@@ -180,9 +180,10 @@ def without_generics(text):
 def note_definitions(line, names):
     """Notes what a `ghost use` of definitions of these crates brings in."""
     found = re.match(r"\s*ghost use ([\w.]+?)(?:\.\{(.*)\}| as (\w+));$", line)
-    if not found or not OWN.match(found[1] + "."):
+    module = found and workspace.origin(found[1])
+    if not found or not OWN.match(module + "."):
         return
-    if found[1].split(".")[1] not in workspace.crates():
+    if module.split(".")[1] not in workspace.crates():
         return
     if found[3]:
         names[found[3]] = "alias"
@@ -232,7 +233,8 @@ class Sources:
             item.clauses = above[0].clauses
 
     def called(self, crate, path):
-        """Returns the items of a path, which may begin with another crate's name. A type stands for its public functions."""
+        """Returns the items of a path, which may begin with a crate's name or `crate`. A type stands for its public functions."""
+        path = path.removeprefix("crate::")
         first, _, rest = path.partition("::")
         if rest and first in workspace.crates():
             crate, path = first, rest

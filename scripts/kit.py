@@ -1,8 +1,8 @@
 #!/usr/bin/env python3
 """The kit's command rt as a module, for the scripts next to it. As a command, `scripts/kit.py WORDS..` does what `rt WORDS..` does, in less time.
 
-To see whether a library is built, rt sums the files of all that lies below it, once for each way through the lists of crates.txt. The program has some
-150,000 such ways, which take minutes for each command. Here each crate is summed once, and again after each run of the prover.
+To see whether a library is built, rattle-kit-13b sums the files of all that lies below it, once for each way through the lists of crates.txt
+(scripts/lists counts them). Here each crate is summed once, and again after each run of the prover; rattle-kit-13f does so itself.
 """
 
 import functools

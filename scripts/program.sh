@@ -9,10 +9,12 @@ is_as_its_sources() {
 # program_of CRATE [PROGRAM]: prints the path of the crate's program: the one given, or else the crate's own, which is proved and built first if
 # it isn't as its sources.
 program_of() {
-    local program=${2:-}
+    local program=${2:-} keep=()
     if [ -z "$program" ]; then
         program=$top/crates/$1/out/$1
-        is_as_its_sources "$program" || "$top/scripts/first-build" "$1" >&2 || exit 1
+        # where `rt check` has built libraries, over the work that it kept
+        if compgen -G "$top/crates/*/out/rlib/stamp" > /dev/null; then keep=(--keep); fi
+        is_as_its_sources "$program" || "$top/scripts/first-build" "${keep[@]}" "$1" >&2 || exit 1
     fi
     [ -x "$program" ] || { echo "no program at $program" >&2; exit 1; }
     echo "$program"

@@ -33,6 +33,37 @@ def crates():
     return {name: below[name] for name in ordered}
 
 
+@functools.cache
+def below(name):
+    """Returns all crates that a crate depends on."""
+    return frozenset().union(*({it} | below(it) for it in crates()[name]))
+
+
+@functools.cache
+def passed_on():
+    """Returns what a crate passes on of the definitions of others: the module that each such name stands for."""
+    found = {}
+    for name in crates():
+        root = TOP / "crates" / name / "specs"
+        for path in sorted(root.rglob("*.antt")):
+            inside = path.relative_to(root).with_suffix("").parts
+            here = ".".join(["Rattle", name, "specs", *(() if inside == ("Lib",) else inside)])
+            for module, other in re.findall(r"^pub use ([\w.]+?)(?: as (\w+))?;?$", path.read_text(), re.M):
+                found[f"{here}.{other or module.rpartition('.')[2]}"] = module
+    return found
+
+
+@functools.cache
+def origin(module):
+    """Returns the module that a path leads to, through all crates that pass it on."""
+    parts = module.split(".")
+    for end in range(len(parts), 0, -1):
+        there = passed_on().get(".".join(parts[:end]))
+        if there:
+            return origin(".".join([there, *parts[end:]]))
+    return module
+
+
 def layers():
     """Returns the crates of each section of crates.txt, in its order."""
     found, ordered = {}, list(crates())

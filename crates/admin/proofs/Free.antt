@@ -10,10 +10,10 @@ use Rattle.shard_run.specs.declared.Entry.{Entry}
 use Rattle.shard_run.specs.Runs.{is_opening, entries_on}
 use Rattle.keyrange.specs.declared.KeyRange.{KeyRange}
 use Rattle.vschema.specs.declared.schema.VSchema.{VSchema}
-use Rattle.opening.specs.Empty.{empty_shards, no_rows, opening_of}
-use Rattle.reshard_create.specs.Configs.{IsFree}
+use Rattle.shard_run.specs.opening.Empty.{empty_shards, no_rows, opening_of}
+use Rattle.reshard.specs.Configs.{IsFree}
 use Rattle.vschema.specs.Schema.{ordinal_from}
-use Rattle.router.proofs.Empty.{on_own_slots, seats_from}
+use Rattle.admin.proofs.router.Empty.{on_own_slots, seats_from}
 
 -- a seat of these slots, from which nothing was seen
 pub record IsFreshFrom (n most : ℕ) (seat : SeatView Entry) : Type 0 where

@@ -4,3 +4,6 @@ pub mod Lines
 pub mod Homes
 pub mod Free
 pub mod RouterHomes
+pub use Rattle.route_engine.proofs.Shared
+pub use Rattle.route_engine.proofs.NoOthers
+pub use Rattle.route_engine.proofs.Anywhere

@@ -9,8 +9,8 @@ use Rattle.keyrange.specs.Names.{IsNamed}
 use Rattle.journal.specs.Views.{PassView}
 use Rattle.shard_run.specs.declared.Entry.{Entry}
 use Rattle.shard_run.specs.Runs.{Opening}
-use Rattle.shard_law.specs.declared.limits.Limits.{Limits}
-use Rattle.reshard_cutover.specs.declared.fault.ReshardFault.TheVariants as faults
+use Rattle.route_engine.specs.Limits.{Limits}
+use Rattle.reshard.specs.ReshardFault.TheVariants as faults
 use Rattle.reshard.specs.Workflows.{WorkflowView}
 use Rattle.vtgate_lines.specs.Partitions.{IsListOf, last, more}
 use Rattle.vtgate_lines.specs.AdminLines.{IsCreate, AsksFor}

@@ -4,13 +4,13 @@ use Rattle.keyrange.specs.declared.KeyRange.{KeyRange}
 use Rattle.journal.specs.Views.{PassView}
 use Rattle.shard_run.specs.declared.Entry.{Entry}
 use Rattle.shard_run.specs.Runs.{Opening}
-use Rattle.shard_law.specs.declared.limits.Limits.{Limits}
+use Rattle.route_engine.specs.Limits.{Limits}
 use Rattle.reshard.specs.declared.workflow.Stage.TheVariants as stages
-use Rattle.reshard_cutover.specs.declared.fault.ReshardFault.{ReshardFault}
-use Rattle.reshard_cutover.specs.declared.fault.ReshardFault.TheVariants as faults
+use Rattle.reshard.specs.ReshardFault.{ReshardFault}
+use Rattle.reshard.specs.ReshardFault.TheVariants as faults
 use Rattle.reshard.specs.Workflows.{WorkflowView}
-use Rattle.reshard_cutover.specs.FirstMoves.{IsMoveRefusal, IsNoStepFirst}
-use Rattle.reshard_create.specs.Begun.{IsCreateRefusal}
+use Rattle.reshard.specs.FirstMoves.{IsMoveRefusal, IsNoStepFirst}
+use Rattle.reshard.specs.Begun.{IsCreateRefusal}
 use Rattle.reshard.specs.Cutover.{MaySwitch, MayCancel, HasStopped, HasStoppedLater}
 use Rattle.admin.specs.declared.reply.AdminReply.TheVariants.{Refused}
 use Rattle.admin.specs.AdminAnswers.{HasCreated, AnswersStep, HasCutOver, HasAdvanced, HasResumed, HasCancelled, HasCompleted}

@@ -5,7 +5,7 @@ use Rattle.reshard.specs.Workflows.{WorkflowView}
 use Rattle.admin.specs.AdminAnswers.{keyspace_of}
 use Rattle.keyrange.specs.declared.KeyRange.{KeyRange}
 use Rattle.vschema.specs.declared.schema.VSchema.{VSchema}
-use Rattle.opening.specs.Empty.{sharded_keyspace}
+use Rattle.shard_run.specs.opening.Empty.{sharded_keyspace}
 use Rattle.admin.specs.Idle.{idle_in, free_slots, opening_workflow}
 
 module _ {S : Type 0} (now : S → ℕ) where

@@ -7,21 +7,21 @@ use Rattle.serving.specs.Partitions.{Seat, IsPartition, AreOf, ranges}
 use Rattle.journal.specs.Views.{PassView}
 use Rattle.shard_run.specs.declared.Entry.{Entry}
 use Rattle.shard_run.specs.Runs.{Opening}
-use Rattle.shard_law.specs.declared.limits.Limits.{Limits}
-use Rattle.follow.specs.declared.steps.Step as moves
+use Rattle.route_engine.specs.Limits.{Limits}
+use Rattle.reshard.specs.Step as moves
 use Rattle.reshard.specs.declared.workflow.Stage.TheVariants as stages
 use Rattle.reshard.specs.declared.cutover.CutoverStep.{CutoverStep}
 use Rattle.reshard.specs.declared.cutover.CutoverStep.TheVariants.{Retire}
 use Rattle.reshard.specs.declared.finishing.Resumed.{Resumed}
-use Rattle.reshard_cutover.specs.declared.fault.ReshardFault.{ReshardFault}
-use Rattle.reshard_cutover.specs.declared.fault.ReshardFault.TheVariants as faults
+use Rattle.reshard.specs.ReshardFault.{ReshardFault}
+use Rattle.reshard.specs.ReshardFault.TheVariants as faults
 use Rattle.reshard.specs.Workflows.{WorkflowView}
 use Rattle.reshard.specs.Served.{AreServed}
-use Rattle.reshard_cutover.specs.FirstMoves.{HasMovedFirst, IsMoveRefusal, IsOneStepFirst, IsNoStepFirst}
-use Rattle.reshard_create.specs.Begun.{HasBegun, IsCreateRefusal}
+use Rattle.reshard.specs.FirstMoves.{HasMovedFirst, IsMoveRefusal, IsOneStepFirst, IsNoStepFirst}
+use Rattle.reshard.specs.Begun.{HasBegun, IsCreateRefusal}
 use Rattle.reshard.specs.Cutover.{MaySwitch, MayCancel, HasSwitched, DoesNoMore, MayRetireFirst, HasStopped, HasStoppedLater, HasFinished, IsResumed}
-use Rattle.follow.specs.Turns.{EachInTurn}
-use Rattle.reshard_cutover.specs.Looks.{HasThawed, IsServingAgain, IsOutOfUse}
+use Rattle.reshard.specs.Turns.{EachInTurn}
+use Rattle.reshard.specs.Looks.{HasThawed, IsServingAgain, IsOutOfUse}
 use Rattle.vtgate_lines.specs.Partitions.{range_cmp}
 use Rattle.vtgate_lines.specs.AdminLines.{IsCreate, AsksFor}
 use Rattle.vtgate_lines.specs.declared.admin_lines.AdminLine.TheVariants as lines

@@ -3,7 +3,7 @@ use Rattle.std.specs.Prelude.{ℕ, ◌-◌, false, List, [], length, Option, Som
 use Rattle.std.specs.List.{range_with_len}
 use Rattle.keyrange.specs.declared.KeyRange.{KeyRange}
 use Rattle.vschema.specs.declared.schema.VSchema.{VSchema}
-use Rattle.opening.specs.Empty.{empty_shards, sharded_keyspace}
+use Rattle.shard_run.specs.opening.Empty.{empty_shards, sharded_keyspace}
 use Rattle.reshard.specs.declared.workflow.Stage.TheVariants as stages
 use Rattle.reshard.specs.Workflows.{WorkflowView}
 

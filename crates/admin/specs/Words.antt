@@ -5,14 +5,14 @@ use Rattle.vt_value.specs.Refusals.{refusal_number}
 use Rattle.keyrange.specs.declared.KeyRange.{KeyRange}
 use Rattle.keyrange.specs.Names.{range_text}
 use Rattle.vtgate_lines.specs.Printed.{line}
-use Rattle.follow.specs.declared.steps.Step as moves
-use Rattle.follow.specs.declared.steps.Step.TheVariants.{Copied, Followed, Level}
+use Rattle.reshard.specs.Step as moves
+use Rattle.reshard.specs.Step.TheVariants.{Copied, Followed, Level}
 use Rattle.reshard.specs.declared.workflow.Stage.{Stage}
 use Rattle.reshard.specs.declared.workflow.Stage.TheVariants as stages
 use Rattle.reshard.specs.declared.cutover.CutoverStep.{CutoverStep}
 use Rattle.reshard.specs.declared.cutover.CutoverStep.TheVariants.{Freeze, Copy, Follow, Retire, Serve, Publish, Release}
-use Rattle.reshard_cutover.specs.declared.fault.ReshardFault.{ReshardFault}
-use Rattle.reshard_cutover.specs.declared.fault.ReshardFault.TheVariants as faults
+use Rattle.reshard.specs.ReshardFault.{ReshardFault}
+use Rattle.reshard.specs.ReshardFault.TheVariants as faults
 use Rattle.admin.specs.declared.reply.AdminReply.{AdminReply}
 use Rattle.admin.specs.declared.reply.AdminReply.TheVariants.{Done, Moved, Took, Refused, Status, Unknown}
 

@@ -1,16 +1,15 @@
 //! Admin lines over the engine.
 ghost use Rattle.std.specs.Prelude.{◌≡◌, ℕ, Some, IfSome, MatchOption};
-ghost use Rattle.follow.specs.Steps.{IsOnward};
-ghost use Rattle.opening.specs.Empty.{sharded_keyspace};
+ghost use Rattle.reshard.specs.Steps.{IsOnward};
+ghost use Rattle.shard_run.specs.opening.Empty.{sharded_keyspace};
 ghost use Rattle.admin.specs.AdminAnswers.{IsAdminReply, keyspace_of};
 
 use crate::administrator::Administrator;
 use crate::reply::AdminReply;
 use journal::Naming;
-use opening::sharded_keyspace;
 use reshard::WorkflowContext;
-use route_engine::{Engine, Gate};
-use shard::{ShardPass, World};
+use route_engine::{Engine, Gate, ShardPass, World};
+use shard_run::opening::sharded_keyspace;
 use std::alloc::Global;
 use std::sync::Wait;
 

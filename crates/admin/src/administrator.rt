@@ -2,8 +2,8 @@
 ghost use Rattle.std.specs.Prelude.{◌≡◌, IsTrue};
 ghost use Rattle.vschema.specs.WellFormed.{is_vschema};
 ghost use Rattle.journal.specs.Runs.{IsLegal};
-ghost use Rattle.shard_law.specs.Entries.{MayFollow};
-ghost use Rattle.follow.specs.Steps.{IsOnward};
+ghost use Rattle.route_engine.specs.Entries.{MayFollow};
+ghost use Rattle.reshard.specs.Steps.{IsOnward};
 ghost use Rattle.admin.specs.AdminAnswers.{IsAnswered, IsAnsweredWithout};
 
 use crate::calls::{advance, cancel, complete, create, resume, step, switch};
@@ -11,7 +11,7 @@ use crate::reply::AdminReply;
 use crate::status::{empty_status, status};
 use journal::Naming;
 use reshard::{Replacement, ReshardFault, Workflow, WorkflowContext};
-use shard::{ShardPass, World};
+use route_engine::{ShardPass, World};
 use std::alloc::Global;
 use std::marker::Model;
 use std::sync::Wait;
@@ -85,9 +85,16 @@ fn answer_without(alloc: Global, words: &[u8]) -> AdminReply
 }
 
 /// Answers admin lines over the workflow of the sharded keyspace. Without such a keyspace it has none. Contracts see the workflow's view.
-#[derive(Drop)]
 pub struct Administrator<W: World, J: Naming> {
     workflow: Option<Workflow<W, J>>,
+}
+
+impl<W: World, J: Naming> Drop for Administrator<W, J> {
+    // Who drops one calls this, and need not know what it owns.
+    fn drop(self) {
+        let Administrator { workflow } = self;
+        drop(workflow);
+    }
 }
 
 impl<W: World, J: Naming> Model for Administrator<W, J> {

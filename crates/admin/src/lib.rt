@@ -6,13 +6,19 @@ mod administering;
 mod administrator;
 mod calls;
 mod reply;
+pub mod router;
 mod setup;
 mod status;
 mod words;
 
+pub use crate::router::widest_limits;
 pub use administering::administer;
 pub use administrator::Administrator;
 pub use reply::AdminReply;
-pub use router::widest_limits;
+pub use reshard::{
+    CutoverStep, Replacement, ReshardConfig, ReshardFault, SourceShard, Stopped, TargetShard,
+    Workflow,
+};
+pub use route_engine::{Answer, Engine, Gate, Open, Reply, Tx};
 pub use setup::administered_router;
 pub use words::stage_word;

@@ -5,8 +5,7 @@ ghost use Rattle.vt_value.specs.Refusals.{refusal_number};
 ghost use Rattle.admin.specs.Words.{fault_word, move_word, reply_text, step_word};
 ghost use Rattle.vtgate_lines.specs.Printed.{line};
 
-use follow::Step;
-use reshard::{CutoverStep, ReshardFault};
+use reshard::{CutoverStep, ReshardFault, Step};
 use vt_value::{Items, Refusal};
 
 /// What answers an admin line.

@@ -3,17 +3,16 @@ ghost use Rattle.std.specs.Prelude.{◌≡◌, ◌≤◌, ◌^◌, [], None, IsT
 ghost use Rattle.vschema.specs.WellFormed.{is_vschema};
 ghost use Rattle.journal.specs.Views.{fresh_seats, new_pass};
 ghost use Rattle.shard_run.specs.Openings.{IsOpening};
-ghost use Rattle.opening.specs.Empty.{empty_shards, opening_of, FitRanges};
+ghost use Rattle.shard_run.specs.opening.Empty.{empty_shards, opening_of, FitRanges};
 ghost use Rattle.admin.specs.Idle.{opening_workflow};
 
 use crate::administrator::Administrator;
+use crate::router::empty_router;
 use journal::{Naming, Opened, Opener, ShardSeat};
 use keyrange::KeyRange;
-use opening::sharded_keyspace;
 use reshard::{ReshardConfig, Workflow};
-use route_engine::{Engine, Gate};
-use router::empty_router;
-use shard::{Limits, ShardLaw, ShardPass, World};
+use route_engine::{Engine, Gate, Limits, ShardLaw, ShardPass, World};
+use shard_run::opening::sharded_keyspace;
 use std::alloc::{AllocError, Global};
 use vschema::VSchema;
 

@@ -11,8 +11,8 @@ use crate::words::stage_word;
 use journal::Naming;
 use keyrange::KeyRange;
 use reshard::{ReshardFault, Stage, Workflow};
+use route_engine::{Shard, World};
 use serving::{Seated, Serving, ShardReference};
-use shard::{Shard, World};
 use std::alloc::{AllocError, Global};
 use vt_value::{Items, Refusal};
 

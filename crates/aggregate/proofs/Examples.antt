@@ -3,7 +3,7 @@ use Rattle.std.proofs.Common.{◌≡◌, ℕ, List, [], ◌∷◌, refl, pos, ne
 use Rattle.vt_value.specs.declared.value.Value.{Value}
 use Rattle.vt_value.specs.declared.value.Value.TheVariants.{Null, Int}
 use Rattle.vt_value.specs.Values.{Row}
-use Rattle.sql_tree.specs.declared.Item.TheVariants.{CountRows, Count, Sum, Min, Max}
+use Rattle.operators.specs.Item.TheVariants.{CountRows, Count, Sum, Min, Max}
 use Rattle.aggregate.specs.Aggregates.{present, count_of, sum_of, least_of, greatest_of}
 use Rattle.aggregate.specs.Groups.{joined_rows}
 

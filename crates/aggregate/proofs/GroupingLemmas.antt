@@ -10,7 +10,7 @@ use Rattle.std.proofs.lemmas.Option.{slice_get-map}
 use Rattle.indexmap.specs.IndexSet.{insert_key}
 use Rattle.vt_value.specs.declared.value.Value.{Value}
 use Rattle.vt_value.specs.Values.{Row, value_at, same_row}
-use Rattle.sql_tree.specs.declared.Item.{Item}
+use Rattle.operators.specs.Item.{Item}
 use Rattle.aggregate.specs.inner.Columns.{with_values, CanJoinAll, AreGroups}
 use Rattle.aggregate.specs.Aggregates.{size}
 use Rattle.aggregate.specs.inner.Grouping.{has_row, group_at, with_group, finished_rows}

@@ -9,3 +9,5 @@ pub mod KeyListLemmas
 pub mod PartsOfRows
 pub mod RowLemmas
 pub mod SplitLemmas
+pub use Rattle.operators.proofs.SliceLemmas
+pub use Rattle.operators.proofs.OrderLemmas

@@ -9,8 +9,8 @@ use Rattle.std.proofs.lemmas.List.Sums.{sum_by-cons, sum_by-append}
 use Rattle.vt_value.specs.declared.value.Value.{Value}
 use Rattle.vt_value.specs.declared.value.Value.TheVariants.{Null, Int, Bytes}
 use Rattle.vt_value.specs.Values.{Row, value_at, same_row}
-use Rattle.sql_tree.specs.declared.Item.{Item}
-use Rattle.sql_tree.specs.declared.Item.TheVariants.{Column, CountRows, Count, Sum, Min, Max}
+use Rattle.operators.specs.Item.{Item}
+use Rattle.operators.specs.Item.TheVariants.{Column, CountRows, Count, Sum, Min, Max}
 use Rattle.aggregate.specs.Aggregates.{present, size, sizes, total, sum_of}
 use Rattle.aggregate.specs.Parts.{join_options, present_number, part_value}
 use Rattle.aggregate.specs.inner.Columns.{total_part, with_values, FitTogether, CanJoin, CanJoinAll}

@@ -5,8 +5,8 @@ use Rattle.std.proofs.Math.IntN.{+ℤ_assoc, +ℤ_idl}
 use Rattle.vt_value.specs.declared.value.Value.{Value}
 use Rattle.vt_value.specs.declared.value.Value.TheVariants.{Null, Int, Bytes}
 use Rattle.vt_value.specs.Values.{value_cmp}
-use Rattle.sql_tree.specs.declared.Item.{Item}
-use Rattle.sql_tree.specs.declared.Item.TheVariants.{Column, CountRows, Count, Sum, Min, Max}
+use Rattle.operators.specs.Item.{Item}
+use Rattle.operators.specs.Item.TheVariants.{Column, CountRows, Count, Sum, Min, Max}
 use Rattle.aggregate.specs.Aggregates.{present, total, sum_of, least_of, greatest_of, count_of, lesser, greater}
 use Rattle.aggregate.specs.inner.Columns.{total_part, least_part, greatest_part}
 use Rattle.aggregate.specs.Groups.{joined_part}

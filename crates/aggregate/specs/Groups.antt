@@ -3,8 +3,8 @@ use Rattle.std.specs.Prelude.{ℕ, ◌+◌, ◌^◌, ◌<◌, ◌≤◌, ◌==�
 use Rattle.vt_value.specs.declared.value.Value.{Value}
 use Rattle.vt_value.specs.declared.value.Value.TheVariants.{Null, Int}
 use Rattle.vt_value.specs.Values.{Row, value_at, same_row}
-use Rattle.sql_tree.specs.declared.Item.{Item}
-use Rattle.sql_tree.specs.declared.Item.TheVariants.{Column, CountRows, Count, Sum, Min, Max}
+use Rattle.operators.specs.Item.{Item}
+use Rattle.operators.specs.Item.TheVariants.{Column, CountRows, Count, Sum, Min, Max}
 use Rattle.aggregate.specs.Aggregates.{present, size, total, sum_of, least_of, greatest_of}
 
 -- each once, at its first position

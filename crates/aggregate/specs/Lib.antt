@@ -4,3 +4,5 @@ pub mod Keys
 pub mod Laws
 pub mod Parts
 pub mod inner
+pub use Rattle.operators.specs.Orders
+pub use Rattle.operators.specs.Slices

@@ -7,7 +7,7 @@ ghost use Rattle.aggregate.specs.inner.Columns.{with_values, FitTogether, CanJoi
 
 use crate::joining::Aggregate;
 use crate::sums::{Sum, number, plus};
-use sql_tree::Item;
+use operators::Item;
 use std::alloc::AllocError;
 use vt_value::{Value, sort_order};
 

@@ -11,19 +11,26 @@ ghost use Rattle.aggregate.specs.inner.Grouping.{has_row, key_values, group_at, 
 use crate::columns::{add_values, push_empty_parts};
 use crate::keys::{BeginsAs, GroupKey};
 use indexmap::IndexSet;
-use operators::{Operator, Rows};
-use sql_tree::Item;
+use operators::{Item, Operator, Rows};
 use std::alloc::{AllocError, Global};
 use std::hash::DefaultHasher;
 use std::vec::IntoIter;
 use vt_value::{Items, Row, Value};
 
 /// The groups of the rows so far.
-#[derive(Drop)]
 pub struct Groups {
     keys: IndexSet<GroupKey, BeginsAs>,
     /// Of each key in turn what its group's parts give, a value for each aggregate. So a group takes no list of its own.
     parts: Vec<Value>,
+}
+
+impl Drop for Groups {
+    // Who drops one calls this, and need not know what it owns.
+    fn drop(self) {
+        let Groups { keys, parts } = self;
+        drop(keys);
+        drop(parts);
+    }
 }
 
 /// Moves the values after a row's group values, which stay. The last one comes first.
@@ -136,9 +143,16 @@ fn finish(values: Row, columns: usize, parts: &mut IntoIter<Value>) -> Result<Ro
 }
 
 /// The groups of several shards, joined: one row for each group, its values and then the joined parts.
-#[derive(Drop)]
 pub struct GroupMerge {
     rows: Rows,
+}
+
+impl Drop for GroupMerge {
+    // Who drops one calls this, and need not know what it owns.
+    fn drop(self) {
+        let GroupMerge { rows } = self;
+        drop(rows);
+    }
 }
 
 impl GroupMerge {

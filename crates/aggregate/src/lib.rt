@@ -13,4 +13,7 @@ pub use counts::{Count, CountStar};
 pub use extremes::{Max, Min};
 pub use groups::GroupMerge;
 pub use joining::{Aggregate, evaluate};
+pub use operators::{
+    Limit, Operator, Project, Rows, collect, compare_rows, project_row, shows_whole, sort_rows,
+};
 pub use sums::Sum;

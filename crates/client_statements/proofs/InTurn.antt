@@ -13,7 +13,7 @@ use Rattle.std.proofs.lemmas.List.MinMax.{ranks_by}
 use denote.Param.Members.{Mut}
 use denote.Ref.{Bor}
 use Rattle.vt_value.specs.Values.{Row}
-use Rattle.vschema_json.specs.declared.column.Column.{Column}
+use Rattle.vschema.specs.Column.{Column}
 use Rattle.vschema.specs.declared.schema.Keyspace.{Keyspace}
 use Rattle.vschema.specs.declared.schema.Table.{Table}
 use Rattle.client_statements.specs.declared.variable.Variable.{Variable}

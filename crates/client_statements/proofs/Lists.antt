@@ -3,8 +3,8 @@ use Rattle.std.proofs.Common.{◌≡◌, ℕ, zero, suc, ◌<◌, Bool, true, fa
 use Rattle.vt_value.specs.declared.refusal.Refusal.{Refusal}
 use Rattle.vt_value.specs.declared.refusal.Refusal.TheVariants as R
 use Rattle.sql_lexer.specs.inner.Results.{Fails}
-use Rattle.client_tokens.specs.declared.token.Token.{Token}
-use Rattle.client_tokens.specs.Pieces.{Lexeme, lexemes_of}
+use Rattle.client_statements.specs.declared.tokens.token.Token.{Token}
+use Rattle.client_statements.specs.tokens.Pieces.{Lexeme, lexemes_of}
 use Rattle.client_statements.specs.declared.statement.SelectItem.{SelectItem}
 use Rattle.client_statements.specs.Grammar.{Lexemes, comma_at, setting_at, settings_at, later, item_at, ends_select, begins_with_comma, items_at}
 

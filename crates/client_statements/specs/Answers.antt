@@ -9,9 +9,9 @@ use Rattle.vt_value.specs.declared.refusal.Refusal.TheVariants.{NoKeyspace, Unkn
 use Rattle.vt_value.specs.declared.value.Value.{Value}
 use Rattle.vt_value.specs.declared.value.Value.TheVariants.{Null, Bytes}
 use Rattle.vt_value.specs.Values.{Row}
-use Rattle.vschema_json.specs.declared.column.Column.{Column}
-use Rattle.vschema_json.specs.declared.column.ColumnType.{ColumnType}
-use Rattle.vschema_json.specs.declared.column.ColumnType.TheVariants.{BigInt, BigIntUnsigned, VarBinary}
+use Rattle.vschema.specs.Column.{Column}
+use Rattle.vschema.specs.ColumnType.{ColumnType}
+use Rattle.vschema.specs.ColumnType.TheVariants.{BigInt, BigIntUnsigned, VarBinary}
 use Rattle.vschema.specs.declared.schema.Table.{Table}
 use Rattle.vschema.specs.declared.schema.VSchema.{VSchema}
 use Rattle.client_statements.specs.declared.answers.Facts.{Facts}

@@ -1,7 +1,7 @@
 -- What a text asks of a server.
 use Rattle.std.specs.Prelude.{◌≡◌, ℕ, List, Some}
-use Rattle.client_tokens.specs.declared.token.Token.{Token}
-use Rattle.client_tokens.specs.Tokens.{HasTokens}
+use Rattle.client_statements.specs.declared.tokens.token.Token.{Token}
+use Rattle.client_statements.specs.tokens.Tokens.{HasTokens}
 use Rattle.client_statements.specs.declared.statement.ClientStatement.{ClientStatement}
 use Rattle.client_statements.specs.Grammar.{client_statement}
 

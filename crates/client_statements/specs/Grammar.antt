@@ -2,14 +2,14 @@
 use Rattle.std.specs.Prelude.{ℕ, zero, suc, ◌-◌, ◌||◌, Bool, true, false, List, [], ◌∷◌, ◌++◌, length, take, drop, slice_get, slice_range, codes, bytes_eq, Option, Some, None, unwrap_or, if◌then◌else◌}
 use Rattle.std.specs.Option.{option_or}
 use Rattle.sql_lexer.specs.inner.Results.{◌>>=◌}
-use Rattle.client_tokens.specs.declared.token.Token.{Token}
-use Rattle.client_tokens.specs.declared.token.TokenKind.{TokenKind}
-use Rattle.client_tokens.specs.declared.token.TokenKind.TheVariants.{Sign}
-use Rattle.client_tokens.specs.declared.token.Keyword.{Keyword}
-use Rattle.client_tokens.specs.declared.token.Keyword.TheVariants as k
-use Rattle.client_tokens.specs.declared.token.Sign.TheVariants.{Equal, Comma, Dot, LeftParenthesis, RightParenthesis, Semicolon}
-use Rattle.client_tokens.specs.Keywords.{same_in_any_case}
-use Rattle.client_tokens.specs.Pieces.{Lexeme, bare, named, system, digits, quoted, mark, lexemes_of}
+use Rattle.client_statements.specs.declared.tokens.token.Token.{Token}
+use Rattle.client_statements.specs.declared.tokens.token.TokenKind.{TokenKind}
+use Rattle.client_statements.specs.declared.tokens.token.TokenKind.TheVariants.{Sign}
+use Rattle.client_statements.specs.declared.tokens.token.Keyword.{Keyword}
+use Rattle.client_statements.specs.declared.tokens.token.Keyword.TheVariants as k
+use Rattle.client_statements.specs.declared.tokens.token.Sign.TheVariants.{Equal, Comma, Dot, LeftParenthesis, RightParenthesis, Semicolon}
+use Rattle.client_statements.specs.tokens.Keywords.{same_in_any_case}
+use Rattle.client_statements.specs.tokens.Pieces.{Lexeme, bare, named, system, digits, quoted, mark, lexemes_of}
 use Rattle.client_statements.specs.declared.rule.Rule.{Rule}
 use Rattle.client_statements.specs.declared.rule.Rule.TheVariants.{Switch, Modes, AnyValue, ItsValue}
 use Rattle.client_statements.specs.declared.statement.NamedValue.{NamedValue}

@@ -5,3 +5,4 @@ pub mod Likes
 pub mod Settings
 pub mod Variables
 pub mod inner
+pub mod tokens

@@ -1,7 +1,7 @@
 -- Which settings a client may make, each with the values that hold anyway.
 use Rattle.std.specs.Prelude.{ℕ, Bool, true, ◌==◌, List, [], ◌∷◌, codes, Option, Some, None, if◌then◌else◌}
 use Rattle.std.specs.List.{list_all, list_any}
-use Rattle.client_tokens.specs.Keywords.{same_in_any_case}
+use Rattle.client_statements.specs.tokens.Keywords.{same_in_any_case}
 use Rattle.client_statements.specs.declared.rule.Rule.{Rule}
 use Rattle.client_statements.specs.declared.rule.Rule.TheVariants.{Switch, Modes, AnyValue, ItsValue}
 use Rattle.client_statements.specs.declared.variable.Variable.{Variable}

@@ -1,7 +1,7 @@
 -- The variables that the server has, each with its value. Names are MySQL's, of its manual's chapter 'Server System Variables'.
 use Rattle.std.specs.Prelude.{ℕ, Bool, List, [], ◌∷◌, codes, Option, if◌then◌else◌}
 use Rattle.std.specs.List.{find}
-use Rattle.client_tokens.specs.Keywords.{same_in_any_case}
+use Rattle.client_statements.specs.tokens.Keywords.{same_in_any_case}
 use Rattle.client_statements.specs.declared.variable.Variable.{Variable}
 use Rattle.client_statements.specs.declared.variable.Variable.TheVariants.{AutoIncrementIncrement, Autocommit, CharacterSetClient, CharacterSetConnection, CharacterSetDatabase, CharacterSetResults, CharacterSetServer, CollationConnection, CollationDatabase, CollationServer, HaveOpenssl, HaveSsl, InitConnect, InteractiveTimeout, License, LowerCaseTableNames, MaxAllowedPacket, NetWriteTimeout, PerformanceSchema, ProtocolVersion, QueryCacheSize, QueryCacheType, ReadOnly, SqlAutoIsNull, SqlMode, SqlSafeUpdates, SystemTimeZone, TimeZone, TransactionIsolation, TransactionReadOnly, TxIsolation, TxReadOnly, UniqueChecks, Version, VersionComment, WaitTimeout}
 

@@ -1,5 +1,5 @@
 //! The kinds of tokens that patterns name.
-use client_tokens::{Keyword, Sign, TokenKind};
+use crate::tokens::{Keyword, Sign, TokenKind};
 
 pub const AS: TokenKind = TokenKind::Word(Some(Keyword::As));
 

@@ -14,6 +14,7 @@ mod selects;
 mod settings;
 mod shows;
 mod statement;
+pub mod tokens;
 mod variable;
 mod variables;
 

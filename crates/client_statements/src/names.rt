@@ -1,11 +1,11 @@
 //! Names, texts, signs and switches at the front of tokens.
 ghost use Rattle.std.specs.Prelude.{◌≡◌, ℕ, List};
 ghost use Rattle.sql_lexer.specs.inner.Results.{AgreesWith};
-ghost use Rattle.client_tokens.specs.Pieces.{lexemes_of};
+ghost use Rattle.client_statements.specs.tokens.Pieces.{lexemes_of};
 ghost use Rattle.client_statements.specs.Grammar.{identifier_at, string_at, any_at, switch_at, like_at, equals_at, comma_at, open_at, close_at};
 
 use crate::kinds::{CLOSE, COMMA, EQUAL, LIKE, OFF, ON, OPEN};
-use client_tokens::{Token, TokenKind, said};
+use crate::tokens::{Token, TokenKind, said};
 use sql_tree::Name;
 use std::alloc::Global;
 use vt_value::Refusal;

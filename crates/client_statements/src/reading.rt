@@ -1,8 +1,8 @@
 //! What a text asks of a server.
 ghost use Rattle.std.specs.Prelude.{◌≡◌, ℕ, List, Some, IfOk, IfSome, length};
 ghost use Rattle.sql_lexer.specs.inner.Results.{AgreesWith};
-ghost use Rattle.client_tokens.specs.declared.token.Token.{Token};
-ghost use Rattle.client_tokens.specs.Pieces.{lexemes_of};
+ghost use Rattle.client_statements.specs.declared.tokens.token.Token.{Token};
+ghost use Rattle.client_statements.specs.tokens.Pieces.{lexemes_of};
 ghost use Rattle.client_statements.specs.declared.statement.ClientStatement.{ClientStatement};
 ghost use Rattle.client_statements.specs.Asks.{Asks};
 ghost use Rattle.client_statements.specs.Grammar.{finished, statement_at, without_semicolon, client_statement};
@@ -12,7 +12,7 @@ use crate::selects::items;
 use crate::settings::set_statement;
 use crate::shows::{begin, describe, show, use_keyspace};
 use crate::statement::ClientStatement;
-use client_tokens::{Token, lex};
+use crate::tokens::{Token, lex};
 use std::alloc::{AllocError, Global};
 use vt_value::Refusal;
 

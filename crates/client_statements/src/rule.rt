@@ -2,11 +2,11 @@
 ghost use Rattle.std.specs.Prelude.{◌≡◌, ◌+◌, ◌<◌, ◌≤◌, ◌==◌, not, length, drop};
 ghost use Rattle.sql_lexer.specs.inner.Scanning.{run};
 ghost use Rattle.std.specs.List.{list_any};
-ghost use Rattle.client_tokens.specs.Keywords.{same_in_any_case};
+ghost use Rattle.client_statements.specs.tokens.Keywords.{same_in_any_case};
 ghost use Rattle.client_statements.specs.Settings.{free_settings, held_modes, is_held_mode, are_held_modes, rule_of};
 
+use crate::tokens::same_in_any_case;
 use crate::variable::{Variable, variable_of};
-use client_tokens::same_in_any_case;
 
 /// The values of a setting that hold.
 #[derive(Clone, Copy, Debug, PartialEq, Eq)]

@@ -1,15 +1,15 @@
 //! SELECT of values by name, after its word.
 ghost use Rattle.std.specs.Prelude.{◌≡◌, ℕ, List, [], length, drop};
 ghost use Rattle.sql_lexer.specs.inner.Results.{AgreesWith};
-ghost use Rattle.client_tokens.specs.Pieces.{lexeme_of, lexemes_of};
+ghost use Rattle.client_statements.specs.tokens.Pieces.{lexeme_of, lexemes_of};
 ghost use Rattle.client_statements.specs.Grammar.{asked_variable, is_scope, scoped_variable, asked_at, called, alias_of, alias_at, text_of_first, item_at};
 ghost use Rattle.client_statements.specs.Grammar.{ends_select, begins_with_comma, items_at};
 
 use crate::kinds::{AS, CLOSE, COMMA, DOT, LIMIT, OPEN};
 use crate::settings::is_session;
 use crate::statement::{NamedValue, SelectItem};
+use crate::tokens::{Keyword, Token, TokenKind, bytes_of, said, same_in_any_case};
 use crate::variable::variable_of;
-use client_tokens::{Keyword, Token, TokenKind, bytes_of, said, same_in_any_case};
 use sql_tree::Name;
 use std::alloc::Global;
 use vt_value::{Items, Refusal};

@@ -1,7 +1,7 @@
 //! SET, after its word.
 ghost use Rattle.std.specs.Prelude.{◌≡◌, ℕ, List, length, Some, None};
 ghost use Rattle.sql_lexer.specs.inner.Results.{AgreesWith};
-ghost use Rattle.client_tokens.specs.Pieces.{lexeme_of, lexemes_of};
+ghost use Rattle.client_statements.specs.tokens.Pieces.{lexeme_of, lexemes_of};
 ghost use Rattle.client_statements.specs.Grammar.{switch_of, switch_at, modes_text_at, is_session, system_at, scoped_at, mode_variable_at, added_at};
 ghost use Rattle.client_statements.specs.Grammar.{inner_concat_at, modes_at, said_at, its_value_at, setting_value_at, target_at, setting_at, settings_at};
 ghost use Rattle.client_statements.specs.Grammar.{collation_at, names_at, level_at, characteristic_at, end_at, character_set_at, session_at, set_at, set_statement};
@@ -13,8 +13,8 @@ use crate::kinds::{
 use crate::names::{any, close, comma, equals, identifier, open, string};
 use crate::rule::{Rule, are_held_modes, rule_of};
 use crate::statement::ClientStatement;
+use crate::tokens::{Token, TokenKind, said, same_in_any_case};
 use crate::variable::{Variable, shown_variable, variable_value};
-use client_tokens::{Token, TokenKind, said, same_in_any_case};
 use sql_tree::Name;
 use std::alloc::Global;
 use vt_value::Refusal;

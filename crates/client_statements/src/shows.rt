@@ -1,7 +1,7 @@
 //! SHOW, DESCRIBE, USE and START TRANSACTION, after their first words.
 ghost use Rattle.std.specs.Prelude.{◌≡◌, ℕ, List};
 ghost use Rattle.sql_lexer.specs.inner.Results.{AgreesWith};
-ghost use Rattle.client_tokens.specs.Pieces.{lexemes_of};
+ghost use Rattle.client_statements.specs.tokens.Pieces.{lexemes_of};
 ghost use Rattle.client_statements.specs.Grammar.{mode_at, begin_at, second_mode_at, from_at, qualified_at, table_name_at, columns_of_at, columns_at};
 ghost use Rattle.client_statements.specs.Grammar.{tables_at, listing_at, databases_at, variables_at, show_at, describe_at, use_at, begin_statement};
 
@@ -11,7 +11,7 @@ use crate::kinds::{
 };
 use crate::names::{identifier, like};
 use crate::statement::{ClientStatement, TableName};
-use client_tokens::Token;
+use crate::tokens::Token;
 use sql_tree::Name;
 use std::alloc::Global;
 use vt_value::Refusal;

@@ -2,7 +2,7 @@
 ghost use Rattle.std.specs.Prelude.{◌≡◌};
 ghost use Rattle.client_statements.specs.Variables.{variable_name, variable_value, shown_variable, variable_of};
 
-use client_tokens::same_in_any_case;
+use crate::tokens::same_in_any_case;
 
 /// A variable that the server has.
 #[derive(Clone, Copy, Debug, PartialEq, Eq)]

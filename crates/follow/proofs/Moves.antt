@@ -7,8 +7,8 @@ use mathlib.Core.List.{IsPrefix}
 use Rattle.vt_value.specs.declared.refusal.Refusal.{Refusal}
 use Rattle.vt_value.specs.declared.refusal.Refusal.TheVariants.{OutOfMemory, ShardFull}
 use Rattle.vt_value.specs.Values.{Row}
-use Rattle.vschema.specs.declared.changes.RowChange.{RowChange}
-use Rattle.vschema.specs.Database.{lies_in, rows_of, changed_table, change_lies_in}
+use Rattle.shard.specs.RowChange.{RowChange}
+use Rattle.shard.specs.Database.{lies_in, rows_of, changed_table, change_lies_in}
 use Rattle.journal.specs.Views.{PassView}
 use Rattle.journal.proofs.Fronts.{prefix_trans, prefix_self}
 use Rattle.shard_run.specs.declared.ShardRecord.{ShardRecord}
@@ -16,20 +16,20 @@ use Rattle.shard_run.specs.declared.Follow as F
 use Rattle.shard_run.specs.declared.Copied as C
 use Rattle.shard_run.specs.declared.Entry.{Entry}
 use Rattle.shard_run.specs.declared.Event.TheVariants.{Follow, Copy}
-use Rattle.shard_law.specs.declared.limits.Limits.{Limits}
+use Rattle.shard.specs.Limits.{Limits}
 use Rattle.shard_run.specs.Runs.{Run, Opening, shard_rows, entries_on, stored_on, stored_changes}
 use Rattle.shard_run.specs.Copies.{position, table_at, is_copied, change_is_copied}
-use Rattle.shard_law.specs.Legal.{Legal, Had, is_left}
+use Rattle.shard.specs.Legal.{Legal, Had, is_left}
 use Rattle.shard_run.specs.Openings.{IsOpening}
-use Rattle.shard_law.proofs.Law.{beginnings}
-use Rattle.shard_law.proofs.Lists.{all-filter, all-weaker, AllByRecursion-push}
-use Rattle.shard_contents.specs.declared.copying.NextTable.{NextTable}
-use Rattle.shard_contents.specs.declared.copying.SourceProgress.{SourceProgress}
-use Rattle.shard_law.specs.Entries.{MayFollow, ShardView}
-use Rattle.shard_contents.specs.Shards.{IsNext}
-use Rattle.shard_contents.specs.Copying.{PassesLimit, IsProgress, IsEntryFor, IsCopyFor, IsNextTable, IsNextCopy, HasCopiedAll, is_reached, is_left_to_copy}
-use Rattle.shard_contents.proofs.Follows.{none_left}
-use Rattle.shard_contents.proofs.CopySteps.{stored_there_now}
+use Rattle.shard.proofs.Law.{beginnings}
+use Rattle.shard.proofs.Lists.{all-filter, all-weaker, AllByRecursion-push}
+use Rattle.shard.specs.NextTable.{NextTable}
+use Rattle.shard.specs.SourceProgress.{SourceProgress}
+use Rattle.shard.specs.Entries.{MayFollow, ShardView}
+use Rattle.shard.specs.Shards.{IsNext}
+use Rattle.shard.specs.Copying.{PassesLimit, IsProgress, IsEntryFor, IsCopyFor, IsNextTable, IsNextCopy, HasCopiedAll, is_reached, is_left_to_copy}
+use Rattle.shard.proofs.Follows.{none_left}
+use Rattle.shard.proofs.CopySteps.{stored_there_now}
 use Rattle.follow.specs.declared.steps.NextEntry.{NextEntry}
 use Rattle.follow.specs.declared.steps.NextEntry.TheVariants as givens
 use Rattle.follow.specs.declared.steps.Step.{Step}
@@ -38,7 +38,7 @@ use Rattle.follow.specs.inner.NextEntries as given
 use Rattle.follow.specs.Steps.{IsOnward, IsRunBetween, IsLevel, HasMoved, copied, followed, level, HasMovedWith, one, all_level, IsFull}
 use Rattle.follow.specs.Steps as full
 use Rattle.follow.specs.declared.steps.Step.TheVariants.{Level}
-use Rattle.shard_contents.proofs.Progress.{take_whole}
+use Rattle.shard.proofs.Progress.{take_whole}
 use Rattle.std.proofs.lemmas.List.{take_more, map-append}
 use Rattle.follow.proofs.Onward.{onward_trans, stepped_after}
 

@@ -8,7 +8,7 @@ use Rattle.shard_run.specs.declared.ShardRecord.{ShardRecord}
 use Rattle.shard_run.specs.declared.Event.{Event}
 use Rattle.shard_run.specs.declared.Entry.{Entry}
 use Rattle.shard_run.specs.Runs.{Run, Opening}
-use Rattle.shard_law.specs.Entries.{slot_of, commit_of, MayFollow, HasLooked, HasAppended, ShardView}
+use Rattle.shard.specs.Entries.{slot_of, commit_of, MayFollow, HasLooked, HasAppended, ShardView}
 use Rattle.follow.specs.Steps.{IsOnward, HasStepped}
 
 pub still : (o : Opening) (p : PassView Entry) → IsLegal (MayFollow o) p.seen → IsOnward o p p

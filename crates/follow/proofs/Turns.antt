@@ -7,8 +7,8 @@ use Rattle.shard_run.specs.declared.ShardRecord.{ShardRecord}
 use Rattle.shard_run.specs.declared.Entry.{Entry}
 use Rattle.shard_run.specs.declared.Event.{Event}
 use Rattle.shard_run.specs.Runs.{Run, Opening}
-use Rattle.shard_law.specs.Entries.{ShardView, MayFollow, HasLooked, HasAppended}
-use Rattle.shard_contents.proofs.Progress.{take_whole}
+use Rattle.shard.specs.Entries.{ShardView, MayFollow, HasLooked, HasAppended}
+use Rattle.shard.proofs.Progress.{take_whole}
 use Rattle.follow.specs.declared.steps.Step.{Step}
 use Rattle.follow.specs.declared.steps.Step.TheVariants.{Level}
 use Rattle.follow.specs.Turns.{HasLookedAt, EndsInLook, IsOneStep, IsNoStep, EachInTurn, FirstInTurn, RefusedInTurn}

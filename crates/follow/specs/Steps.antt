@@ -12,9 +12,9 @@ use Rattle.shard_run.specs.declared.Follow as F
 use Rattle.shard_run.specs.declared.Entry.{Entry}
 use Rattle.shard_run.specs.Runs.{Run, Opening, stored_on}
 use Rattle.shard_run.specs.Copies.{position}
-use Rattle.shard_law.specs.Entries.{MayFollow}
-use Rattle.shard_law.specs.declared.limits.Limits.{Limits}
-use Rattle.shard_contents.specs.Copying.{HasCopiedAll, PassesLimit}
+use Rattle.shard.specs.Entries.{MayFollow}
+use Rattle.shard.specs.Limits.{Limits}
+use Rattle.shard.specs.Copying.{HasCopiedAll, PassesLimit}
 use Rattle.follow.specs.declared.steps.Step.{Step}
 use Rattle.follow.specs.declared.steps.Step.TheVariants.{Copied, Followed, Level}
 

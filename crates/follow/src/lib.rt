@@ -6,5 +6,6 @@ mod steps;
 mod workflow_shard;
 
 pub use modes::{answers, follows};
+pub use shard::{MOST_ENTRIES, Shard, ShardPass, ShardState, World};
 pub use steps::{Step, bring_forward, bring_forward_with};
 pub use workflow_shard::WorkflowShard;

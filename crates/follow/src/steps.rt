@@ -3,15 +3,15 @@
 //! alone, target before source, and a target never is a source of its own sources, so no two steps wait for each other.
 ghost use Rattle.std.specs.Prelude.{◌≡◌, ◌⊎◌, ◌<◌, ◌≤◌, ◌^◌, true, Some, IsTrue, IfOk, IfErr, IfSome, OnOk, OnErr, MatchOption, Contains, map};
 ghost use Rattle.std.specs.List.{AllByRecursion};
-ghost use Rattle.vschema.specs.WellFormed.{is_vschema};
+ghost use Rattle.shard.specs.WellFormed.{is_vschema};
 ghost use Rattle.journal.specs.Runs.{IsLegal};
 ghost use Rattle.shard_run.specs.declared.Entry.{Entry};
 ghost use Rattle.shard_run.specs.declared.Follow as follow;
 ghost use Rattle.shard_run.specs.Runs.{mode, answers_queries, shard_rows};
 ghost use Rattle.shard_run.specs.Openings.{IsOpening, row_count};
-ghost use Rattle.shard_law.specs.Law.{SourcesApart};
-ghost use Rattle.shard_law.specs.Entries.{MayFollow};
-ghost use Rattle.shard_contents.specs.Copying.{IsEntryFor, IsNextCopy};
+ghost use Rattle.shard.specs.Law.{SourcesApart};
+ghost use Rattle.shard.specs.Entries.{MayFollow};
+ghost use Rattle.shard.specs.Copying.{IsEntryFor, IsNextCopy};
 ghost use Rattle.follow.specs.Steps.{IsOnward, HasMoved, HasMovedWith, IsFull};
 ghost use Rattle.follow.specs.Turns.{IsOneStep, IsOneStepWith, IsNoStep, IsNoStepWith};
 ghost use Rattle.follow.specs.inner.NextEntries.{IsNextForTarget, IsOneLook, NoneLeft, IsNextEntry, IsTakeable, HasTaken};
@@ -19,11 +19,10 @@ ghost use Rattle.follow.specs.inner.NextEntries.{IsNextForTarget, IsOneLook, Non
 use crate::modes::{answers, follows};
 use crate::workflow_shard::WorkflowShard;
 use journal::Naming;
-use shard::{ShardPass, ShardState, World};
+use shard::{Place, ShardPass, ShardState, VSchema, World};
 use shard_run::{Copied, Follow, Mode};
 use std::alloc::{AllocError, Global};
 use std::sync::Wait;
-use vschema::{Place, VSchema};
 use vt_value::Refusal;
 
 /// What a target did.

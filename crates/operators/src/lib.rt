@@ -17,4 +17,5 @@ pub use pulling::{Operator, collect};
 pub use shown::{PulledRows, ShownRows};
 pub use slicing::Limit;
 pub use sorting::{compare_rows, sort_rows};
+pub use sql_tree::Item;
 pub use stored::Rows;

@@ -11,10 +11,18 @@ use vt_value::{Items, Row};
 
 /// Rows of which the columns at given ordinals are shown, or all. What is shown of a row is made once it is pulled, so that what is held are
 /// the rows as they were read. Contracts see the rows as they are shown.
-#[derive(Drop)]
 pub struct ShownRows {
     rows: Items<Row>,
     ordinals: Option<Items<usize>>,
+}
+
+impl Drop for ShownRows {
+    // Who drops one calls this, and need not know what it owns.
+    fn drop(self) {
+        let ShownRows { rows, ordinals } = self;
+        drop(rows);
+        drop(ordinals);
+    }
 }
 
 impl Model for ShownRows {

@@ -16,7 +16,7 @@ use Rattle.sql_tree.specs.declared.Condition.TheOpen.{Compare, In, IsNull, Not, 
 use Rattle.sql_tree.specs.declared.Condition.TheFolds.{ind-Condition}
 use Rattle.sql_eval.specs.Conditions.{truth_at, operand_value}
 use Rattle.sql_eval.proofs.ConditionLemmas.{truth_at-In, truth_at-And}
-use Rattle.vschema_json.specs.declared.column.ColumnType.{ColumnType}
+use Rattle.vschema.specs.ColumnType.{ColumnType}
 use Rattle.planner.specs.declared.keys.Keys.{Keys}
 use Rattle.planner.specs.Routes.{kind_in}
 use Rattle.planner.specs.Plans.{has_among, first_cut, cut_members, cut_in, cut_by, cut_of}

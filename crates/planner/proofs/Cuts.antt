@@ -10,7 +10,7 @@ use Rattle.sql_tree.specs.declared.Condition.{Condition, Condition-F, roll-Condi
 use Rattle.sql_tree.specs.declared.Condition.TheVariants.{rolls-Compare, rolls-In, rolls-IsNull, rolls-Not, rolls-And, rolls-Or}
 use Rattle.sql_tree.specs.declared.Condition.TheOpen.{Compare, In, IsNull, Not, And, Or}
 use Rattle.sql_tree.specs.declared.Condition.TheFolds.{ind-Condition}
-use Rattle.vschema_json.specs.declared.column.ColumnType.{ColumnType}
+use Rattle.vschema.specs.ColumnType.{ColumnType}
 use Rattle.planner.specs.declared.keys.Keys.{Keys}
 use Rattle.planner.specs.Routes.{among, node_among, first_of}
 use Rattle.planner.specs.Plans.{has_among, Cut, first_cut, cut_in, node_cut, cut_by, cut_of}

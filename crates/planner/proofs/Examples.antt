@@ -11,7 +11,7 @@ use Rattle.sql_tree.specs.declared.Item.{Item}
 use Rattle.sql_tree.specs.declared.Item.TheVariants as item
 use Rattle.sql_tree.specs.declared.Key.{Key}
 use Rattle.sql_tree.specs.declared.LimitClause.{LimitClause}
-use Rattle.vschema_json.specs.declared.column.ColumnType.TheVariants.{VarBinary}
+use Rattle.vschema.specs.ColumnType.TheVariants.{VarBinary}
 use Rattle.vschema.specs.declared.schema.Join.{Join}
 use Rattle.vschema.specs.declared.schema.Query.{Query}
 use Rattle.vschema.specs.declared.changes.Write.TheVariants.{Insert, Update, Delete}

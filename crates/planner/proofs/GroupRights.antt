@@ -10,7 +10,7 @@ use Rattle.vt_value.specs.Values.{Row, value_at}
 use Rattle.sql_tree.specs.declared.Item.{Item}
 use Rattle.sql_tree.specs.declared.Item.TheVariants as item
 use Rattle.operators.specs.Slices.{columns_of}
-use Rattle.aggregate.specs.Groups.{joined_rows}
+use Rattle.sql_eval.specs.AggregateGroups.{joined_rows}
 use Rattle.vschema.specs.declared.schema.Query.{Query}
 use Rattle.vschema.specs.declared.schema.Table.{Table}
 use Rattle.vschema.specs.declared.schema.VSchema.{VSchema}

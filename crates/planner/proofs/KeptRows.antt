@@ -6,7 +6,7 @@ use Rattle.std.proofs.lemmas.List.{append-nil}
 use Rattle.vt_value.specs.Values.{Row, value_at, is_null}
 use Rattle.keyrange.specs.Ranges.{has_id}
 use Rattle.sql_tree.specs.declared.Condition.{Condition}
-use Rattle.vschema_json.specs.declared.column.ColumnType.{ColumnType}
+use Rattle.vschema.specs.ColumnType.{ColumnType}
 use Rattle.vschema.specs.declared.schema.Join.{Join}
 use Rattle.vschema.specs.declared.schema.Table.{Table}
 use Rattle.vschema.specs.Database.{Database, rows_of, union}

@@ -10,10 +10,10 @@ use Rattle.vt_value.specs.declared.value.Value.{Value}
 use Rattle.vt_value.specs.Values.{Row, value_at, value_cmp, same_row}
 use Rattle.sql_tree.specs.declared.Item.{Item}
 use Rattle.sql_tree.specs.declared.Item.TheVariants.{Column, CountRows, Count, Sum, Min, Max}
-use Rattle.aggregate.specs.Aggregates.{present, size, sizes, sum_of, least_of, greatest_of, IsColumnValue}
-use Rattle.aggregate.specs.Groups.{distinct, joined_part, joined_parts, of_group, group_keys, joined_rows, column_size, AreSummable}
-use Rattle.aggregate.specs.inner.SumLemmas.{total_within, present_within}
-use Rattle.aggregate.proofs.PartsOfRows.{size_is, group_size}
+use Rattle.sql_eval.specs.Aggregates.{present, size, sizes, sum_of, least_of, greatest_of, IsColumnValue}
+use Rattle.sql_eval.specs.AggregateGroups.{distinct, joined_part, joined_parts, of_group, group_keys, joined_rows, column_size, AreSummable}
+use Rattle.sql_eval.specs.SumLemmas.{total_within, present_within}
+use Rattle.sql_eval.proofs.PartsOfRows.{size_is, group_size}
 use Rattle.vschema.specs.declared.schema.Query.{Query}
 use Rattle.vschema.specs.declared.schema.Table.{Table}
 use Rattle.vschema.specs.declared.schema.VSchema.{VSchema}

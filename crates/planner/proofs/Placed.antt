@@ -10,9 +10,9 @@ use Rattle.keyrange.specs.Ranges.{has_id}
 use Rattle.vindex.specs.declared.AnyVindex.{AnyVindex}
 use Rattle.vindex.specs.declared.AnyVindex.TheVariants.{Numeric, ReverseBits, Binary, BinaryMd5}
 use Rattle.vindex.specs.KeyspaceIds.{keyspace_id, is_key}
-use Rattle.vschema_json.specs.declared.column.Column.{Column}
-use Rattle.vschema_json.specs.declared.column.ColumnType.{ColumnType}
-use Rattle.vschema_json.specs.declared.column.ColumnType.TheVariants.{BigInt, BigIntUnsigned, VarBinary}
+use Rattle.vschema.specs.Column.{Column}
+use Rattle.vschema.specs.ColumnType.{ColumnType}
+use Rattle.vschema.specs.ColumnType.TheVariants.{BigInt, BigIntUnsigned, VarBinary}
 use Rattle.vschema.specs.declared.schema.ColumnVindex.{ColumnVindex}
 use Rattle.vschema.specs.declared.schema.Place.{Place}
 use Rattle.vschema.specs.declared.schema.Table.{Table}

@@ -9,7 +9,7 @@ use Rattle.vt_value.specs.Values.{Row, value_at, is_null, is_true, compare}
 use Rattle.keyrange.specs.declared.KeyRange.{KeyRange}
 use Rattle.keyrange.specs.Ranges.{has_id}
 use Rattle.sql_tree.specs.declared.Condition.{Condition}
-use Rattle.vschema_json.specs.declared.column.ColumnType.{ColumnType}
+use Rattle.vschema.specs.ColumnType.{ColumnType}
 use Rattle.vschema.specs.declared.schema.Join.{Join}
 use Rattle.vschema.specs.declared.schema.Query.{Query}
 use Rattle.vschema.specs.declared.schema.Table.{Table}

@@ -20,7 +20,7 @@ use Rattle.sql_tree.specs.declared.Condition.TheOpen.{Compare, In, IsNull, Not, 
 use Rattle.sql_tree.specs.declared.Condition.TheFolds.{ind-Condition}
 use Rattle.operators.proofs.OrderLemmas.{value_cmp-same}
 use Rattle.sql_eval.specs.Conditions.{truth_at, node_truth, operand_value}
-use Rattle.vschema_json.specs.declared.column.ColumnType.{ColumnType}
+use Rattle.vschema.specs.ColumnType.{ColumnType}
 use Rattle.planner.specs.declared.keys.Keys.{Keys}
 use Rattle.planner.specs.Routes.{is_null_literal, node_never, is_never, is_equality, kind_in, of_kind, literal_with, node_equals, equals, members_with, node_among, among}
 

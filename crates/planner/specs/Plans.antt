@@ -14,13 +14,13 @@ use Rattle.sql_tree.specs.declared.Condition.{Condition, Condition-F, fold-Condi
 use Rattle.sql_tree.specs.declared.Condition.TheOpen.{Compare, In, IsNull, Not, And, Or}
 use Rattle.keyrange.specs.declared.KeyRange.{KeyRange}
 use Rattle.keyrange.specs.Ranges.{has_id}
-use Rattle.vschema_json.specs.declared.column.ColumnType.{ColumnType}
+use Rattle.vschema.specs.ColumnType.{ColumnType}
 use Rattle.vschema.specs.declared.schema.Join.{Join}
 use Rattle.vschema.specs.declared.schema.Query.{Query}
 use Rattle.vschema.specs.declared.schema.Table.{Table}
 use Rattle.vschema.specs.Resolved.{ordinals_from}
 use Rattle.vschema.specs.Database.{Database}
-use Rattle.aggregate.specs.Groups.{AreSummable}
+use Rattle.sql_eval.specs.AggregateGroups.{AreSummable}
 use Rattle.vschema.specs.Checks.{is_aggregated}
 use Rattle.sql_eval.specs.declared.groups.Grouping.{Grouping}
 use Rattle.sql_eval.specs.Grouping.{aggregates_of, grouping_of, group_columns, group_order, grouped, IsSortedSlice}

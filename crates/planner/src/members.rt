@@ -38,11 +38,19 @@ fn known_id(vindex: AnyVindex, value: &Value) -> KnownId
 }
 
 /// The values of an IN on the vindex column. Contracts see the list of the values.
-#[derive(Drop)]
 pub struct InValues {
     list: Vec<InValue>,
     /// Where all their ids lie, if this is known.
     span: Option<Span>,
+}
+
+impl Drop for InValues {
+    // Who drops one calls this, and need not know what it owns.
+    fn drop(self) {
+        let InValues { list, span } = self;
+        drop(list);
+        drop(span);
+    }
 }
 
 impl Model for InValues {

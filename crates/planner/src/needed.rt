@@ -14,9 +14,16 @@ pub(crate) enum Kept {
 }
 
 /// The values of the vindex column whose shards a statement needs. Contracts see the list of the values.
-#[derive(Drop)]
 pub struct NeededValues {
     kept: Kept,
+}
+
+impl Drop for NeededValues {
+    // Who drops one calls this, and need not know what it owns.
+    fn drop(self) {
+        let NeededValues { kept } = self;
+        drop(kept);
+    }
 }
 
 impl Model for NeededValues {

@@ -11,18 +11,18 @@ use Rattle.shard_run.specs.declared.ShardRecord.{ShardRecord}
 use Rattle.shard_run.specs.declared.Entry.{Entry}
 use Rattle.shard_run.specs.Runs.{Opening, Run, entries_on}
 use Rattle.std.proofs.lemmas.List.{length-map}
-use Rattle.shard_law.specs.declared.limits.Limits.{Limits}
-use Rattle.follow.specs.Steps.{IsOnward, IsRunBetween}
-use Rattle.reshard_cutover.specs.declared.fault.ReshardFault.{ReshardFault}
-use Rattle.reshard_cutover.specs.Steps.{named_for}
-use Rattle.reshard_cutover.specs.TargetSources.{TargetWithSources, shards_of}
+use Rattle.reshard_create.specs.Limits.{Limits}
+use Rattle.reshard_create.specs.FollowSteps.{IsOnward, IsRunBetween}
+use Rattle.reshard_create.specs.ReshardFault.{ReshardFault}
+use Rattle.reshard_create.specs.Steps.{named_for}
+use Rattle.reshard_create.specs.TargetSources.{TargetWithSources, shards_of}
 use Rattle.reshard.specs.inner.Workflows.{IsPrepared}
-use Rattle.reshard_cutover.specs.FirstMoves.{IsMoveRefusal}
-use Rattle.reshard_cutover.specs.FirstMoves as first_moves
+use Rattle.reshard_create.specs.FirstMoves.{IsMoveRefusal}
+use Rattle.reshard_create.specs.FirstMoves as first_moves
 use Rattle.reshard.specs.Cutover.{IsSwitchRefusal, no_memory, no_room, stuck, overfull, HasNoRoom}
-use Rattle.reshard_cutover.specs.Looks.{IsServingAgain}
+use Rattle.reshard_create.specs.Looks.{IsServingAgain}
 use Rattle.reshard_create.proofs.Begins.{map_twice}
-use Rattle.reshard_cutover.proofs.Retiring.{map_at}
+use Rattle.reshard_create.proofs.Retiring.{map_at}
 
 -- ---- the memory of a cutover
 
@@ -91,7 +91,7 @@ module _ (o : Opening) (most : Limits) (sources : List ShardRecord) (targets : L
 pub serving_within : (o : Opening) (p p' now now' : PassView Entry) (sources : List ShardRecord) → IsPrefix p'.seen p.seen → IsPrefix now.seen now'.seen
     → AllByRecursion (λ s. IsServingAgain o s p now) sources → AllByRecursion (λ s. IsServingAgain o s p' now') sources
 serving_within o p p' now now' sources early late all =
-    Rattle.shard_law.proofs.Lists.all-weaker (λ s. IsServingAgain o s p now) (λ s. IsServingAgain o s p' now')
+    Rattle.reshard_create.proofs.Lists.all-weaker (λ s. IsServingAgain o s p now) (λ s. IsServingAgain o s p' now')
     (λ s h. record { run = h.run; between = between_within p p' now now' h.run early late h.between; serving = h.serving }) sources all
 
 -- ---- the next one of those that a view tells

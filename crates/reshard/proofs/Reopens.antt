@@ -4,8 +4,8 @@ use Rattle.std.specs.Prelude.{Option, Some, None, IfSome}
 use Rattle.std.proofs.lemmas.Bool.{false≢true}
 use Rattle.std.proofs.lemmas.List.{drop-map}
 use Rattle.shard_run.specs.declared.ShardRecord.{ShardRecord}
-use Rattle.reshard_cutover.specs.Steps.{named_for}
-use Rattle.reshard_cutover.specs.TargetSources.{TargetWithSources, shards_of}
+use Rattle.reshard_create.specs.Steps.{named_for}
+use Rattle.reshard_create.specs.TargetSources.{TargetWithSources, shards_of}
 use Rattle.reshard.specs.inner.Workflows.{IsPrepared}
 use Rattle.reshard_create.proofs.Begins.{map_twice}
 

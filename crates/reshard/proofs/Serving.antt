@@ -5,7 +5,7 @@ use Rattle.std.proofs.lemmas.List.{take-map, drop-map}
 use Rattle.keyrange.specs.declared.KeyRange.{KeyRange}
 use Rattle.serving.specs.Partitions.{Seat, IsPartition, AreOf, ranges}
 use Rattle.shard_run.specs.declared.ShardRecord.{ShardRecord}
-use Rattle.reshard_cutover.specs.TargetSources.{TargetWithSources}
+use Rattle.reshard_create.specs.TargetSources.{TargetWithSources}
 use Rattle.reshard_create.specs.Splits.{target_seats}
 use Rattle.reshard_create.proofs.Begins.{map_twice}
 use Rattle.reshard.specs.declared.workflow.Stage.TheVariants as stages

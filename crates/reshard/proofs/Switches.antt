@@ -9,27 +9,27 @@ use Rattle.shard_run.specs.declared.ShardRecord.{ShardRecord}
 use Rattle.shard_run.specs.declared.Entry.{Entry}
 use Rattle.shard_run.specs.declared.Event.TheVariants as events
 use Rattle.shard_run.specs.Runs.{Opening, stored_on}
-use Rattle.shard_law.proofs.Lists.{all-weaker}
-use Rattle.shard_law.specs.declared.limits.Limits.{Limits}
-use Rattle.follow.specs.Steps.{IsOnward, HasStepped, HasMovedWith}
-use Rattle.follow.specs.declared.steps.Step.{Step}
-use Rattle.follow.specs.declared.steps.Step.TheVariants.{Copied, Followed, Level}
-use Rattle.reshard_cutover.specs.declared.fault.ReshardFault.{ReshardFault}
-use Rattle.reshard_cutover.specs.declared.fault.ReshardFault.TheVariants.{Refused}
+use Rattle.reshard_create.proofs.Lists.{all-weaker}
+use Rattle.reshard_create.specs.Limits.{Limits}
+use Rattle.reshard_create.specs.FollowSteps.{IsOnward, HasStepped, HasMovedWith}
+use Rattle.reshard_create.specs.Step.{Step}
+use Rattle.reshard_create.specs.Step.TheVariants.{Copied, Followed, Level}
+use Rattle.reshard_create.specs.ReshardFault.{ReshardFault}
+use Rattle.reshard_create.specs.ReshardFault.TheVariants.{Refused}
 use Rattle.reshard.specs.declared.workflow.Stage.TheVariants.{Following, Switching}
 use Rattle.reshard.specs.declared.cutover.CutoverStep.{CutoverStep}
 use Rattle.reshard.specs.declared.cutover.CutoverStep.TheVariants as steps
-use Rattle.reshard_cutover.specs.FirstMoves.{HasMovedFirst}
-use Rattle.reshard_cutover.specs.FirstMoves as first_moves
-use Rattle.reshard_cutover.specs.Steps.{named_for}
+use Rattle.reshard_create.specs.FirstMoves.{HasMovedFirst}
+use Rattle.reshard_create.specs.FirstMoves as first_moves
+use Rattle.reshard_create.specs.Steps.{named_for}
 use Rattle.reshard.specs.Workflows.{WorkflowView}
-use Rattle.reshard_cutover.specs.TargetSources.{TargetWithSources, shards_of}
+use Rattle.reshard_create.specs.TargetSources.{TargetWithSources, shards_of}
 use Rattle.reshard.specs.Cutover.{HasSwitched, HasStopped, HasNoRoom, HasFoundReady, EndsAlone, DoesNoMore, IsSwitchRefusal, MayRetireFirst}
-use Rattle.follow.specs.Turns.{EachInTurn}
-use Rattle.reshard_cutover.specs.Looks.{HasLookedForOneChange, HasThawed, IsServingAgain, IsWithinRows}
+use Rattle.reshard_create.specs.Turns.{EachInTurn}
+use Rattle.reshard_create.specs.Looks.{HasLookedForOneChange, HasThawed, IsServingAgain, IsWithinRows}
 use Rattle.reshard.specs.Cutover as cut
-use Rattle.reshard_cutover.proofs.Onward.{stepped_after}
-use Rattle.reshard_cutover.proofs.Moving.{with_after, with_later}
+use Rattle.reshard_create.proofs.Onward.{stepped_after}
+use Rattle.reshard_create.proofs.Moving.{with_after, with_later}
 use mathlib.Core.List.{IsPrefix}
 use Rattle.journal.proofs.Fronts.{prefix_trans, prefix_self}
 

@@ -5,19 +5,19 @@ use Rattle.journal.specs.Views.{PassView}
 use Rattle.shard_run.specs.declared.ShardRecord.{ShardRecord}
 use Rattle.shard_run.specs.declared.Entry.{Entry}
 use Rattle.shard_run.specs.Runs.{Opening}
-use Rattle.shard_law.specs.declared.limits.Limits.{Limits}
-use Rattle.follow.specs.Steps.{IsOnward}
-use Rattle.reshard_cutover.specs.declared.fault.ReshardFault.{ReshardFault}
-use Rattle.reshard_cutover.specs.declared.fault.ReshardFault.TheVariants.{WrongState}
+use Rattle.reshard_create.specs.Limits.{Limits}
+use Rattle.reshard_create.specs.FollowSteps.{IsOnward}
+use Rattle.reshard_create.specs.ReshardFault.{ReshardFault}
+use Rattle.reshard_create.specs.ReshardFault.TheVariants.{WrongState}
 use Rattle.reshard.specs.declared.workflow.Stage.{Stage}
 use Rattle.reshard.specs.declared.workflow.Stage.TheVariants.{None, Switching, Switched}
 use Rattle.reshard.specs.declared.cutover.CutoverStep.{CutoverStep}
 use Rattle.reshard.specs.declared.cutover.CutoverStep.TheVariants.{Release}
 use Rattle.reshard.specs.Workflows.{WorkflowView}
-use Rattle.reshard_cutover.specs.TargetSources.{TargetWithSources}
+use Rattle.reshard_create.specs.TargetSources.{TargetWithSources}
 use Rattle.reshard.specs.Cutover.{IsFurther, HasFinished, HasSwitched, HasStopped, HasStoppedLater, MaySwitch}
-use Rattle.reshard_cutover.specs.Looks.{IsCutOver}
-use Rattle.reshard_cutover.proofs.Onward.{onward_trans}
+use Rattle.reshard_create.specs.Looks.{IsCutOver}
+use Rattle.reshard_create.proofs.Onward.{onward_trans}
 use Rattle.reshard.specs.Cutover as cut
 
 pub further_still : (w : WorkflowView) → IsFurther w w

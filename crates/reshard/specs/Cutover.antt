@@ -7,22 +7,22 @@ use Rattle.shard_run.specs.declared.ShardRecord.{ShardRecord}
 use Rattle.shard_run.specs.declared.Entry.{Entry}
 use Rattle.shard_run.specs.declared.Event.TheVariants as events
 use Rattle.shard_run.specs.Runs.{Opening, Run, entries_on, stored_on}
-use Rattle.shard_law.specs.declared.limits.Limits.{Limits}
-use Rattle.follow.specs.Steps.{IsOnward, IsRunBetween, HasStepped, IsFull}
-use Rattle.follow.specs.Turns.{EachInTurn}
-use Rattle.follow.specs.declared.steps.Step.TheVariants as moves
-use Rattle.reshard_cutover.specs.declared.fault.ReshardFault.{ReshardFault}
-use Rattle.reshard_cutover.specs.declared.fault.ReshardFault.TheVariants.{Refused}
+use Rattle.reshard_create.specs.Limits.{Limits}
+use Rattle.reshard_create.specs.FollowSteps.{IsOnward, IsRunBetween, HasStepped, IsFull}
+use Rattle.reshard_create.specs.Turns.{EachInTurn}
+use Rattle.reshard_create.specs.Step.TheVariants as moves
+use Rattle.reshard_create.specs.ReshardFault.{ReshardFault}
+use Rattle.reshard_create.specs.ReshardFault.TheVariants.{Refused}
 use Rattle.reshard.specs.declared.workflow.Stage.TheVariants as stages
 use Rattle.reshard.specs.declared.cutover.CutoverStep.{CutoverStep}
 use Rattle.reshard.specs.declared.finishing.Resumed.{Resumed}
 use Rattle.reshard.specs.declared.finishing.Resumed.TheVariants.{Thawed, Finished}
 use Rattle.reshard.specs.declared.cutover.CutoverStep.TheVariants.{Freeze, Copy, Follow, Retire, Serve, Publish, Release}
-use Rattle.reshard_cutover.specs.Steps.{named_for}
-use Rattle.reshard_cutover.specs.Looks.{HasLookedOnlyAt, HasLookedForOneChange, HasThawed, IsServingAgain, IsCutOver, IsOverfull, IsWithinRows}
+use Rattle.reshard_create.specs.Steps.{named_for}
+use Rattle.reshard_create.specs.Looks.{HasLookedOnlyAt, HasLookedForOneChange, HasThawed, IsServingAgain, IsCutOver, IsOverfull, IsWithinRows}
 use Rattle.reshard.specs.Workflows.{WorkflowView}
-use Rattle.reshard_cutover.specs.TargetSources.{TargetWithSources, shards_of}
-use Rattle.reshard_cutover.specs.FirstMoves.{HasMovedFirst, IsOneStepFirst}
+use Rattle.reshard_create.specs.TargetSources.{TargetWithSources, shards_of}
+use Rattle.reshard_create.specs.FirstMoves.{HasMovedFirst, IsOneStepFirst}
 
 -- a cutover goes on while targets follow, or it has begun
 abbrev pub MaySwitch : WorkflowView → Type 0

@@ -7,7 +7,7 @@ use Rattle.shard_run.specs.declared.Entry.{Entry}
 use Rattle.shard_run.specs.Runs.{Opening}
 use Rattle.reshard.specs.declared.workflow.Stage.{Stage}
 use Rattle.reshard.specs.declared.workflow.Stage.TheVariants as stages
-use Rattle.reshard_reopen.specs.Rebuilt.{AreMadeAgain}
+use Rattle.reshard_create.specs.reopening.Rebuilt.{AreMadeAgain}
 use Rattle.reshard.specs.Workflows.{WorkflowView}
 
 -- a cutover has begun once a source is frozen

@@ -7,11 +7,11 @@ use Rattle.shard_run.specs.declared.ShardRecord.{ShardRecord}
 use Rattle.shard_run.specs.declared.Entry.{Entry}
 use Rattle.shard_run.specs.Runs.{Opening}
 use Rattle.shard_run.specs.Openings.{IsOpening}
-use Rattle.shard_law.specs.declared.limits.Limits.{Limits}
+use Rattle.reshard_create.specs.Limits.{Limits}
 use Rattle.reshard_create.specs.declared.config.ReshardConfig.{ReshardConfig}
 use Rattle.reshard.specs.declared.workflow.Stage.{Stage}
 use Rattle.reshard.specs.declared.workflow.Stage.TheVariants as stages
-use Rattle.reshard_cutover.specs.TargetSources.{TargetWithSources}
+use Rattle.reshard_create.specs.TargetSources.{TargetWithSources}
 use Rattle.reshard_create.specs.Configs.{IsReshardConfig, IsFree}
 use Rattle.reshard_create.specs.Splits.{IsSplit, target_seats}
 

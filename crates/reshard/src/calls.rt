@@ -1,27 +1,26 @@
 //! The calls that begin a workflow, and bring its targets forward.
 ghost use Rattle.std.specs.Prelude.{◌≡◌, ◌⊎◌, ◌++◌, false, [], IfOk, IfErr, OnOk, OnErr, IsTrue, map, reverse, length};
 ghost use Rattle.std.specs.List.{AllByRecursion};
-ghost use Rattle.vschema.specs.WellFormed.{is_vschema};
+ghost use Rattle.shard_run.specs.WellFormed.{is_vschema};
 ghost use Rattle.keyrange.specs.Names.{IsNamed};
 ghost use Rattle.journal.specs.Runs.{IsLegal};
 ghost use Rattle.shard_run.specs.Openings.{IsOpening};
-ghost use Rattle.shard_law.specs.Entries.{MayFollow};
-ghost use Rattle.follow.specs.Steps.{IsOnward};
+ghost use Rattle.reshard_create.specs.Entries.{MayFollow};
+ghost use Rattle.reshard_create.specs.FollowSteps.{IsOnward};
 ghost use Rattle.reshard_create.specs.Configs.{IsFree, IsReshardConfig};
-ghost use Rattle.reshard_cutover.specs.FirstMoves.{HasMovedFirst, IsMoveRefusal, IsOneStepFirst, IsNoStepFirst};
+ghost use Rattle.reshard_create.specs.FirstMoves.{HasMovedFirst, IsMoveRefusal, IsOneStepFirst, IsNoStepFirst};
 ghost use Rattle.reshard_create.specs.Begun.{HasBegun, IsCreateRefusal};
 
 use crate::context::{Replacement, WorkflowContext};
 use crate::workflow::{Stage, Workflow};
-use follow::Step;
 use journal::{Naming, ShardSeat};
 use keyrange::KeyRange;
-use reshard_create::{ReshardConfig, begin};
-use reshard_cutover::{ReshardFault, move_first};
-use shard::{ShardLaw, ShardPass, World};
+use reshard_create::{
+    ReshardConfig, ReshardFault, ShardLaw, ShardPass, Step, World, begin, move_first,
+};
+use shard_run::VSchema;
 use std::alloc::Global;
 use std::sync::Wait;
-use vschema::VSchema;
 
 impl<W: World, J: Naming> Workflow<W, J> {
     // Promise: A workflow begins exactly with one shard of its keyspace for each of its first ranges, none of which is named twice, and with

@@ -2,14 +2,13 @@
 ghost use Rattle.std.specs.Prelude.{◌≡◌, true, false, [], OnOk, IfErr};
 ghost use Rattle.std.specs.List.{AllByRecursion};
 ghost use Rattle.journal.specs.Runs.{IsLegal};
-ghost use Rattle.shard_law.specs.Entries.{MayFollow};
-ghost use Rattle.follow.specs.Steps.{IsOnward};
-ghost use Rattle.reshard_cutover.specs.Looks.{IsOutOfUse};
+ghost use Rattle.reshard_create.specs.Entries.{MayFollow};
+ghost use Rattle.reshard_create.specs.FollowSteps.{IsOnward};
+ghost use Rattle.reshard_create.specs.Looks.{IsOutOfUse};
 
 use crate::workflow::{Stage, Workflow};
 use journal::Naming;
-use reshard_cutover::{ReshardFault, drop_all};
-use shard::{ShardPass, World};
+use reshard_create::{ReshardFault, ShardPass, World, drop_all};
 use std::sync::Wait;
 
 impl<W: World, J: Naming> Workflow<W, J> {

@@ -1,9 +1,9 @@
 //! What is handed to the calls of a workflow.
 use buffer::Buffer;
 use journal::Naming;
+use reshard_create::{Shard, World};
 use serving::Serving;
-use shard::{Shard, World};
-use vschema::VSchema;
+use shard_run::VSchema;
 
 /// What a workflow's calls work on beside its shards. It is the engine's, which lends it for a call.
 #[derive(Drop)]

@@ -8,25 +8,25 @@ ghost use Rattle.journal.specs.Runs.{IsLegal};
 ghost use Rattle.journal.specs.Views.{PassView};
 ghost use Rattle.shard_run.specs.declared.Entry.{Entry};
 ghost use Rattle.shard_run.specs.Runs.{stored_on};
-ghost use Rattle.shard_law.specs.Entries.{MayFollow};
-ghost use Rattle.follow.specs.Steps.{IsOnward, HasStepped};
-ghost use Rattle.reshard_cutover.specs.Steps.{named_for};
-ghost use Rattle.reshard_cutover.specs.TargetSources.{TargetWithSources, shards_of};
+ghost use Rattle.reshard_create.specs.Entries.{MayFollow};
+ghost use Rattle.reshard_create.specs.FollowSteps.{IsOnward, HasStepped};
+ghost use Rattle.reshard_create.specs.Steps.{named_for};
+ghost use Rattle.reshard_create.specs.TargetSources.{TargetWithSources, shards_of};
 ghost use Rattle.reshard.specs.Cutover.{HasNoRoom};
-ghost use Rattle.follow.specs.Turns.{EachInTurn};
-ghost use Rattle.reshard_cutover.specs.Looks.{HasLookedOnlyAt, HasLookedForOneChange, HasThawed, IsServingAgain};
+ghost use Rattle.reshard_create.specs.Turns.{EachInTurn};
+ghost use Rattle.reshard_create.specs.Looks.{HasLookedOnlyAt, HasLookedForOneChange, HasThawed, IsServingAgain};
 
 use crate::workflow::{Stage, Workflow};
 use buffer::Buffer;
 use journal::Naming;
-use reshard_cutover::{
-    confirm_retired, freeze, named_of_all, next_partition, note_stored, retire, serve, unfreeze_all,
+use reshard_create::{
+    Shard, ShardPass, World, confirm_retired, freeze, named_of_all, next_partition, note_stored,
+    retire, serve, unfreeze_all,
 };
 use serving::Serving;
-use shard::{Shard, ShardPass, World};
+use shard_run::VSchema;
 use std::alloc::{AllocError, Global};
 use std::sync::Wait;
-use vschema::VSchema;
 use vt_value::Refusal;
 
 /// A step of a cutover.

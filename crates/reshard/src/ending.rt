@@ -2,17 +2,16 @@
 ghost use Rattle.std.specs.Prelude.{◌≡◌, true, false, [], OnOk, IfErr};
 ghost use Rattle.std.specs.List.{AllByRecursion};
 ghost use Rattle.journal.specs.Runs.{IsLegal};
-ghost use Rattle.shard_law.specs.Entries.{MayFollow};
-ghost use Rattle.follow.specs.Steps.{IsOnward};
+ghost use Rattle.reshard_create.specs.Entries.{MayFollow};
+ghost use Rattle.reshard_create.specs.FollowSteps.{IsOnward};
 ghost use Rattle.reshard.specs.Cutover.{MayCancel};
-ghost use Rattle.follow.specs.Turns.{EachInTurn};
-ghost use Rattle.reshard_cutover.specs.Looks.{HasThawed, IsServingAgain};
+ghost use Rattle.reshard_create.specs.Turns.{EachInTurn};
+ghost use Rattle.reshard_create.specs.Looks.{HasThawed, IsServingAgain};
 
 use crate::workflow::{Stage, Workflow};
 use buffer::Buffer;
 use journal::Naming;
-use reshard_cutover::{ReshardFault, SourceShard, TargetShard, unfreeze_all};
-use shard::{ShardPass, World};
+use reshard_create::{ReshardFault, ShardPass, SourceShard, TargetShard, World, unfreeze_all};
 use std::sync::Wait;
 
 // Has each source give up what it keeps for the targets, which ask for it no more.

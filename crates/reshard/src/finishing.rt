@@ -1,17 +1,16 @@
 //! A cutover as a whole, and one that was begun and is to end.
 ghost use Rattle.std.specs.Prelude.{◌≡◌, ◌⊎◌, true, false, IfOk, IfErr, OnOk, IsTrue};
-ghost use Rattle.vschema.specs.WellFormed.{is_vschema};
+ghost use Rattle.shard_run.specs.WellFormed.{is_vschema};
 ghost use Rattle.journal.specs.Runs.{IsLegal};
-ghost use Rattle.shard_law.specs.Entries.{MayFollow};
-ghost use Rattle.follow.specs.Steps.{IsOnward};
+ghost use Rattle.reshard_create.specs.Entries.{MayFollow};
+ghost use Rattle.reshard_create.specs.FollowSteps.{IsOnward};
 ghost use Rattle.reshard.specs.Cutover.{HasFinished, IsResumed, HasStoppedLater, MaySwitch};
 
 use crate::context::WorkflowContext;
 use crate::cutover::CutoverStep;
 use crate::workflow::{Stage, Workflow};
 use journal::Naming;
-use reshard_cutover::{ReshardFault, confirm_cutover};
-use shard::{ShardPass, World};
+use reshard_create::{ReshardFault, ShardPass, World, confirm_cutover};
 use std::alloc::Global;
 use std::sync::Wait;
 

@@ -1,24 +1,21 @@
 //! The targets come level before a cutover freezes their sources, so that writes wait for little.
 ghost use Rattle.std.specs.Prelude.{◌≡◌, IfErr, IsTrue, OnOk, map};
-ghost use Rattle.vschema.specs.WellFormed.{is_vschema};
+ghost use Rattle.shard_run.specs.WellFormed.{is_vschema};
 ghost use Rattle.journal.specs.Runs.{IsLegal};
 ghost use Rattle.shard_run.specs.Openings.{IsOpening};
-ghost use Rattle.shard_law.specs.Entries.{MayFollow};
-ghost use Rattle.follow.specs.Steps.{IsOnward};
-ghost use Rattle.reshard_cutover.specs.Overlapping.{TakeFromOwn};
-ghost use Rattle.reshard_cutover.specs.FirstMoves.{IsMoveRefusal};
+ghost use Rattle.reshard_create.specs.Entries.{MayFollow};
+ghost use Rattle.reshard_create.specs.FollowSteps.{IsOnward};
+ghost use Rattle.reshard_create.specs.Overlapping.{TakeFromOwn};
+ghost use Rattle.reshard_create.specs.FirstMoves.{IsMoveRefusal};
 ghost use Rattle.reshard.specs.Cutover.{HasStopped};
 
 use crate::context::WorkflowContext;
 use crate::workflow::{Stage, Workflow};
-use follow::Step;
 use journal::Naming;
-use reshard_cutover::{ReshardFault, TargetShard, move_first};
-use shard::{ShardPass, ShardState, World};
-use shard_run::Mode;
+use reshard_create::{ReshardFault, ShardPass, ShardState, Step, TargetShard, World, move_first};
+use shard_run::{Mode, VSchema};
 use std::alloc::Global;
 use std::sync::Wait;
-use vschema::VSchema;
 use vt_value::Refusal;
 
 // How many entries a source has stored that serves.

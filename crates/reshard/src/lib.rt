@@ -17,7 +17,8 @@ mod workflow;
 pub use context::{Replacement, WorkflowContext};
 pub use cutover::CutoverStep;
 pub use finishing::Resumed;
-pub use reshard_create::ReshardConfig;
-pub use reshard_cutover::{ReshardFault, SourceShard, TargetShard, freeze, retire, serve, thaw};
+pub use reshard_create::{
+    ReshardConfig, ReshardFault, SourceShard, Step, TargetShard, freeze, retire, serve, thaw,
+};
 pub use stopping::Stopped;
 pub use workflow::{Stage, Workflow};

@@ -5,9 +5,7 @@ ghost use Rattle.reshard.specs.Served.{AreServed};
 use crate::workflow::Workflow;
 use journal::Naming;
 use keyrange::KeyRange;
-use reshard_create::next_ranges;
-use reshard_cutover::{SourceShard, TargetShard};
-use shard::World;
+use reshard_create::{SourceShard, TargetShard, World, next_ranges};
 use std::alloc::{AllocError, Global};
 
 // The sources after the first so many.

@@ -1,18 +1,17 @@
 //! A workflow whose controller stopped is made again from its shards.
 ghost use Rattle.std.specs.Prelude.{◌≡◌, ◌⊎◌, false, IfErr, IfSome, IsSome, OnOk, OnErr};
 ghost use Rattle.journal.specs.Runs.{IsLegal};
-ghost use Rattle.shard_law.specs.Entries.{MayFollow};
-ghost use Rattle.follow.specs.Steps.{IsOnward};
+ghost use Rattle.reshard_create.specs.Entries.{MayFollow};
+ghost use Rattle.reshard_create.specs.FollowSteps.{IsOnward};
 ghost use Rattle.reshard.specs.Reopened.{IsReopened, has_any, stage_at};
-ghost use Rattle.reshard_reopen.specs.Rebuilt.{IsReopenRefusal};
+ghost use Rattle.reshard_create.specs.reopening.Rebuilt.{IsReopenRefusal};
 
 use crate::context::Replacement;
 use crate::workflow::{Stage, Workflow};
 use journal::Naming;
-use reshard_cutover::ReshardFault;
-use reshard_reopen::{reopen_workflow, stands_on};
+use reshard_create::reopening::{reopen_workflow, stands_on};
+use reshard_create::{ReshardFault, Shard, ShardPass, World};
 use serving::{Partition, Serving, ShardReference};
-use shard::{Shard, ShardPass, World};
 use std::alloc::Global;
 use std::sync::Wait;
 

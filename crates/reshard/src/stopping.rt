@@ -7,9 +7,7 @@ ghost use Rattle.reshard_create.specs.Splits.{target_seats};
 
 use crate::workflow::Workflow;
 use journal::{Naming, ShardSeat};
-use reshard_create::ReshardConfig;
-use reshard_cutover::{SourceShard, TargetShard};
-use shard::{ShardLaw, World};
+use reshard_create::{ReshardConfig, ShardLaw, SourceShard, TargetShard, World};
 
 /// What is left of a controller that stopped: the seats of the slots that no shard was ever on, and the shards of its workflow. How far
 /// that was is forgotten.

@@ -1,21 +1,19 @@
 //! The calls of a cutover.
 ghost use Rattle.std.specs.Prelude.{◌≡◌, ◌⊎◌, ◌≤◌, true, false, Some, IfOk, IfErr, OnOk, OnErr, MatchOption, IsTrue};
-ghost use Rattle.vschema.specs.WellFormed.{is_vschema};
+ghost use Rattle.shard_run.specs.WellFormed.{is_vschema};
 ghost use Rattle.journal.specs.Runs.{IsLegal};
-ghost use Rattle.shard_law.specs.Entries.{MayFollow};
-ghost use Rattle.follow.specs.Steps.{IsOnward};
+ghost use Rattle.reshard_create.specs.Entries.{MayFollow};
+ghost use Rattle.reshard_create.specs.FollowSteps.{IsOnward};
 ghost use Rattle.reshard.specs.Cutover.{HasSwitched, HasFoundReady, EndsAlone, DoesNoMore, HasStopped, IsSwitchRefusal, MayRetireFirst, MaySwitch};
 
 use crate::context::WorkflowContext;
 use crate::cutover::CutoverStep;
 use crate::workflow::{Stage, Workflow};
-use follow::Step;
 use journal::Naming;
-use reshard_cutover::{ReshardFault, all_fit, move_first};
-use shard::{ShardPass, World};
+use reshard_create::{ReshardFault, ShardPass, Step, World, all_fit, move_first};
+use shard_run::VSchema;
 use std::alloc::Global;
 use std::sync::Wait;
-use vschema::VSchema;
 use vt_value::Refusal;
 
 impl<W: World, J: Naming> Workflow<W, J> {

@@ -1,9 +1,7 @@
 //! A workflow that replaces some shards of a keyspace by others, which hold the same ids.
 use journal::{Naming, ShardSeat};
-use reshard_create::ReshardConfig;
-use reshard_cutover::{SourceShard, TargetShard};
+use reshard_create::{ReshardConfig, Shard, ShardLaw, SourceShard, TargetShard, World};
 use serving::{Partition, ShardReference};
-use shard::{Shard, ShardLaw, World};
 use std::marker::Model;
 use std::vec::IntoIter;
 use vt_value::Items;

@@ -13,22 +13,22 @@ use Rattle.shard_run.specs.declared.ShardRecord.{ShardRecord}
 use Rattle.shard_run.specs.declared.Entry.{Entry}
 use Rattle.shard_run.specs.Runs.{Opening}
 use Rattle.shard_law.proofs.Lists.{In, In-from_Contains, Contains-from_In, In-map, In-from_map, In-all, all-from_In, all-weaker}
-use Rattle.reshard_split.specs.Choices.{DoNotOverlap, holders, HoldTheSame, begin_cmp}
+use Rattle.reshard_create.specs.split.Choices.{DoNotOverlap, holders, HoldTheSame, begin_cmp}
 use Rattle.reshard_cutover.specs.Steps.{named_for, FitTargets, IsTargetOf}
-use Rattle.reshard_split.specs.Splits.{target_seats, IsSplit, AreOverlapped}
-use Rattle.reshard_split.specs.inner.Takes.{TakesFrom}
+use Rattle.reshard_create.specs.split.Splits.{target_seats, IsSplit, AreOverlapped}
+use Rattle.reshard_create.specs.split.inner.Takes.{TakesFrom}
 use Rattle.shard.specs.Seats.{seat_of}
 use Rattle.reshard_cutover.specs.TargetSources.{TargetWithSources, shards_of}
 use Rattle.reshard_create.specs.Begun.{AreSources, TakesItsOwn, IsTakenFrom, HasBegun}
 use Rattle.reshard_create.specs.inner.Created.{AreNamed, AreToldApart, IsMadeOf, IsSurvey}
 pub use Rattle.reshard_cutover.proofs.Permuted.{all_permuted}
-pub use Rattle.reshard_split.proofs.Lists.{map_twice, all_map}
-use Rattle.reshard_split.proofs.Lists.{all_from_map, all_both}
-use Rattle.reshard_split.proofs.Those.{all_those}
-use Rattle.reshard_split.proofs.Counting.{counted-append, held_too}
+pub use Rattle.reshard_create.proofs.split.Lists.{map_twice, all_map}
+use Rattle.reshard_create.proofs.split.Lists.{all_from_map, all_both}
+use Rattle.reshard_create.proofs.split.Those.{all_those}
+use Rattle.reshard_create.proofs.split.Counting.{counted-append, held_too}
 use Rattle.reshard_create.proofs.NamedRanges.{same_from_cover, at_most_one}
 use Rattle.reshard_create.proofs.Blank.{begins_inside}
-use Rattle.reshard_split.proofs.Splits.{fit, is_target}
+use Rattle.reshard_create.proofs.split.Splits.{fit, is_target}
 
 module _ (current taken rest : List Seat) (from into ordered : List KeyRange) (are : AreNamed from current taken rest) (among : AllByRecursion (Contains current) rest)
     (is : IsPartition current) (k : ℕ) (sources : List ShardRecord) (seats : map seat_of sources ≡ taken) (home : AllByRecursion (λ s. s.place.keyspace ≡ k) sources)

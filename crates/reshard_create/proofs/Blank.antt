@@ -8,9 +8,9 @@ use Rattle.keyrange.specs.Ranges.{has_id, is_before_end, IsByteString}
 use Rattle.keyrange.specs.Names.{IsNamed}
 use Rattle.keyrange.proofs.Order as order
 use Rattle.vt_value.specs.Values.{Row}
-use Rattle.vschema.specs.declared.schema.Place.{Place}
-use Rattle.vschema.specs.declared.schema.Table.{Table}
-use Rattle.vschema.specs.Database.{Database, union, restricted}
+use Rattle.shard.specs.Place.{Place}
+use Rattle.shard.specs.Table.{Table}
+use Rattle.shard.specs.Database.{Database, union, restricted}
 use Rattle.journal.specs.Views.{SeatView}
 use Rattle.shard_run.specs.declared.ShardRecord.{ShardRecord}
 use Rattle.shard_run.specs.declared.Mode.TheVariants.{Following, Serving}

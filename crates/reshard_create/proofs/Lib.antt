@@ -8,3 +8,8 @@ pub mod Making
 pub mod Begins
 pub mod Unfit
 pub mod Seats
+pub use Rattle.reshard_cutover.proofs.Retiring
+pub use Rattle.reshard_cutover.proofs.Onward
+pub use Rattle.reshard_cutover.proofs.Moving
+pub use Rattle.reshard_cutover.proofs.Residual
+pub use Rattle.shard_law.proofs.Lists

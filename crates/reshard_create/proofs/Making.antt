@@ -8,10 +8,10 @@ use Rattle.keyrange.specs.Ranges.{Overlap}
 use Rattle.shard_run.specs.declared.ShardRecord.{ShardRecord}
 use Rattle.shard_run.specs.declared.Entry.{Entry}
 use Rattle.shard_law.proofs.Lists.{Contains-from_In, AllByRecursion-push}
-use Rattle.vschema.specs.declared.schema.Place.{Place}
+use Rattle.shard.specs.Place.{Place}
 use Rattle.shard_run.specs.Runs.{Opening}
 use Rattle.reshard_cutover.specs.Overlapping.{AreThose}
-use Rattle.reshard_split.specs.Splits.{AreOverlapped}
+use Rattle.reshard_create.specs.split.Splits.{AreOverlapped}
 use Rattle.reshard_create.specs.Begun.{WasSeen, IsServing}
 use Rattle.reshard_create.specs.inner.Created.{IsMade, IsMadeOf, IsSeenAt}
 use Rattle.reshard_create.proofs.SeenShards.{seat_is, seen_since, seen_until}

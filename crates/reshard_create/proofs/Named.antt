@@ -10,8 +10,8 @@ use Rattle.std.specs.Cmp.Lexicographic.{pointwise}
 use Rattle.std.proofs.lemmas.Bool.{eq-eqb, false≢true}
 use Rattle.serving.specs.Partitions.{Seat}
 use Rattle.reshard_create.specs.inner.Created.{AreNamed}
-use Rattle.reshard_split.proofs.Lists.{all_push}
-use Rattle.reshard_split.proofs.Counting.{counted-cons, counted-append}
+use Rattle.reshard_create.proofs.split.Lists.{all_push}
+use Rattle.reshard_create.proofs.split.Counting.{counted-cons, counted-append}
 
 one_more : {X : Type 0} (p : X → Bool) (xs : List X) (x : X) → count_by p (xs ++ x ∷ []) ≡ count_by p xs + cond (p x) 1 0
 one_more p xs x =

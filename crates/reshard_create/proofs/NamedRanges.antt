@@ -3,8 +3,8 @@ use Rattle.std.proofs.Common.{◌≡◌, ℕ, ◌+◌, ◌≤◌, Bool, List, �
 use Rattle.keyrange.specs.declared.KeyRange.{KeyRange}
 use Rattle.keyrange.specs.Ranges.{has_id, IsByteString, Cover}
 use Rattle.serving.specs.Partitions.{Seat}
-use Rattle.reshard_split.specs.Choices.{holders, HoldTheSame}
-use Rattle.reshard_split.proofs.Counting.{counted-append, counted-map}
+use Rattle.reshard_create.specs.split.Choices.{holders, HoldTheSame}
+use Rattle.reshard_create.proofs.split.Counting.{counted-append, counted-map}
 use Rattle.reshard_create.specs.inner.Created.{AreNamed}
 
 module _ (ranges : List KeyRange) (seats taken rest : List Seat) (are : AreNamed ranges seats taken rest) (targets : List KeyRange)

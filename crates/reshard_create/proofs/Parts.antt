@@ -10,11 +10,11 @@ use Rattle.keyrange.specs.Ranges.{has_id, IsByteString}
 use Rattle.keyrange.specs.Names.{IsNamed}
 use Rattle.serving.specs.Partitions.{Seat, IsPartition, ranges}
 use Rattle.shard_law.proofs.Lists.{In, In-from_Contains, Contains-from_In, In-all, In-map, all-from_In}
-use Rattle.reshard_split.specs.Choices.{DoNotOverlap, holders}
+use Rattle.reshard_create.specs.split.Choices.{DoNotOverlap, holders}
 use Rattle.reshard_create.specs.inner.Created.{AreToldApart}
 use Rattle.reshard_create.proofs.Blank.{begins_inside}
-use Rattle.reshard_split.proofs.Lists.{all_map, all_both}
-use Rattle.reshard_split.proofs.Counting.{counted-cons, counted-among, counted-twice, counted-append}
+use Rattle.reshard_create.proofs.split.Lists.{all_map, all_both}
+use Rattle.reshard_create.proofs.split.Counting.{counted-cons, counted-among, counted-twice, counted-append}
 use Rattle.reshard_create.proofs.NamedRanges.{present, at_most_one}
 
 -- ids that lie in one of the ranges at most

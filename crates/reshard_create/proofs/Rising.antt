@@ -11,8 +11,8 @@ use Rattle.std.proofs.lemmas.List.MinMax.{ranks_by}
 use denote.Param.Members.{Mut}
 use denote.Ref.{Bor}
 use Rattle.keyrange.specs.declared.KeyRange.{KeyRange}
-use Rattle.reshard_split.specs.Choices.{begin_cmp}
-use Rattle.reshard_split.proofs.Lists.{get_map}
+use Rattle.reshard_create.specs.split.Choices.{begin_cmp}
+use Rattle.reshard_create.proofs.split.Lists.{get_map}
 
 -- a sort by a closure that compares the begins of ranges
 pub sorted_by_begins : {X F : Type 0} {g : Mut F (Bor X × (Bor X × Unit {0})) Ordering} {f : F} (range : X → KeyRange) (xs : List X) → IsSortedByClosure g f xs

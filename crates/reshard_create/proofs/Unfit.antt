@@ -9,7 +9,7 @@ use Rattle.vt_value.specs.declared.refusal.Refusal.{Refusal}
 use Rattle.vt_value.specs.declared.refusal.Refusal.TheVariants.{OutOfMemory}
 use Rattle.keyrange.specs.declared.KeyRange.{KeyRange}
 use Rattle.keyrange.specs.Ranges.{Cover}
-use Rattle.vschema.specs.declared.schema.Place.{Place}
+use Rattle.shard.specs.Place.{Place}
 use Rattle.serving.specs.Partitions.{Seat, IsPartition, ranges}
 use Rattle.journal.specs.Views.{PassView}
 use Rattle.shard_run.specs.declared.ShardRecord.{ShardRecord}
@@ -20,13 +20,13 @@ use Rattle.shard.specs.Seats.{seat_of}
 use Rattle.reshard_cutover.specs.declared.fault.ReshardFault.{ReshardFault}
 use Rattle.reshard_cutover.specs.declared.fault.ReshardFault.TheVariants.{Refused, Gap, FewSlots, WrongSource}
 use Rattle.reshard_cutover.specs.declared.fault.ReshardFault.TheVariants as faults
-use Rattle.reshard_split.specs.Choices.{DoNotOverlap, HoldTheSame}
+use Rattle.reshard_create.specs.split.Choices.{DoNotOverlap, HoldTheSame}
 use Rattle.reshard_create.specs.Begun.{WasSeen, IsServing, IsNotFollowing, IsAway, AreSources, ArePartsOf, IsCreateRefusal}
 use Rattle.reshard_create.specs.Begun as begun
 use Rattle.reshard_create.specs.inner.Created.{AreToldApart, HasSeen}
 use Rattle.reshard_cutover.proofs.Permuted.{all_permuted}
 pub use Rattle.reshard_cutover.proofs.Residual.{residual}
-use Rattle.reshard_split.proofs.Lists.{map_twice, all_map, all_from_map, all_both}
+use Rattle.reshard_create.proofs.split.Lists.{map_twice, all_map, all_from_map, all_both}
 use Rattle.reshard_create.proofs.NamedRanges.{same_from_cover, cover_from_same}
 use Rattle.reshard_create.proofs.SeenShards.{AreShardsAt, shards_at, shards_since, shards_until, seen_until, seen_as, serves_not_follows}
 use Rattle.reshard_create.proofs.Parts.{taken_are, taken_once, all_parts, apart_from_once, once_permuted}

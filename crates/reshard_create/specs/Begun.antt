@@ -11,11 +11,11 @@ use Rattle.shard_run.specs.declared.Mode.{Mode}
 use Rattle.shard_run.specs.declared.Mode.TheVariants as modes
 use Rattle.shard_run.specs.Runs.{Run, Opening, IsShardOf, mode}
 use Rattle.shard.specs.Seats.{seat_of}
-use Rattle.follow.specs.Steps.{IsRunBetween}
+use Rattle.reshard_cutover.specs.FollowSteps.{IsRunBetween}
 use Rattle.reshard_cutover.specs.declared.fault.ReshardFault.{ReshardFault}
 use Rattle.reshard_cutover.specs.declared.fault.ReshardFault.TheVariants.{Refused, Gap, FewSlots, WrongSource}
 use Rattle.reshard_cutover.specs.declared.fault.ReshardFault.TheVariants as faults
-use Rattle.reshard_split.specs.Choices.{DoNotOverlap, HoldTheSame, begin_cmp}
+use Rattle.reshard_create.specs.split.Choices.{DoNotOverlap, HoldTheSame, begin_cmp}
 use Rattle.reshard_cutover.specs.Overlapping.{AreThose}
 use Rattle.reshard_cutover.specs.TargetSources.{TargetWithSources}
 

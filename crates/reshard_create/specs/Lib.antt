@@ -2,3 +2,16 @@ pub mod inner
 pub mod Configs
 pub mod Splits
 pub mod Begun
+pub mod split
+pub mod reopening
+pub use Rattle.reshard_cutover.specs.FollowSteps
+pub use Rattle.reshard_cutover.specs.FirstMoves
+pub use Rattle.reshard_cutover.specs.Looks
+pub use Rattle.reshard_cutover.specs.Steps
+pub use Rattle.reshard_cutover.specs.TargetSources
+pub use Rattle.reshard_cutover.specs.Turns
+pub use Rattle.reshard_cutover.specs.Overlapping
+pub use Rattle.reshard_cutover.specs.Step
+pub use Rattle.reshard_cutover.specs.declared.fault.ReshardFault
+pub use Rattle.shard_law.specs.Entries
+pub use Rattle.shard_law.specs.declared.limits.Limits

@@ -1,2 +1,2 @@
 -- When targets may take the sources' place, for those who begin a workflow.
-pub use Rattle.reshard_split.specs.Splits.{IsSplit, target_seats}
+pub use Rattle.reshard_create.specs.split.Splits.{IsSplit, target_seats}

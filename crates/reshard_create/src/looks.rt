@@ -4,15 +4,14 @@ ghost use Rattle.std.specs.List.{AllByRecursion};
 ghost use Rattle.std.specs.Sync.Mutex.{mutex_guard_value};
 ghost use Rattle.journal.specs.Runs.{IsLegal};
 ghost use Rattle.shard_law.specs.Entries.{MayFollow};
-ghost use Rattle.follow.specs.Steps.{IsOnward};
+ghost use Rattle.reshard_cutover.specs.FollowSteps.{IsOnward};
 ghost use Rattle.reshard_create.specs.Begun.{IsNotFollowing};
 ghost use Rattle.reshard_create.specs.inner.Created.{IsSighted, HasSeen};
 
 use journal::Naming;
 use serving::ShardReference;
-use shard::{Shard, ShardPass, ShardState, World};
+use shard::{Place, Shard, ShardPass, ShardState, World};
 use std::sync::{MutexGuard, Wait};
-use vschema::Place;
 
 // The state of the part's shard under its lock, with a look at it, once it is found there and doesn't follow. Takes no memory.
 pub(crate) fn look_at<'a, W: World, J: Naming>(

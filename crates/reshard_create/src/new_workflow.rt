@@ -6,10 +6,10 @@ ghost use Rattle.journal.specs.Runs.{IsLegal};
 ghost use Rattle.shard_run.specs.Openings.{IsOpening};
 ghost use Rattle.shard_law.specs.Entries.{MayFollow};
 ghost use Rattle.serving.specs.Partitions.{IsPartition, AreOf};
-ghost use Rattle.follow.specs.Steps.{IsOnward};
+ghost use Rattle.reshard_cutover.specs.FollowSteps.{IsOnward};
 ghost use Rattle.reshard_create.specs.Configs.{IsFree, IsReshardConfig};
-ghost use Rattle.reshard_split.specs.Splits.{IsSplit, target_seats};
-ghost use Rattle.reshard_split.specs.Choices.{DoNotOverlap, begin_cmp};
+ghost use Rattle.reshard_create.specs.split.Splits.{IsSplit, target_seats};
+ghost use Rattle.reshard_create.specs.split.Choices.{DoNotOverlap, begin_cmp};
 ghost use Rattle.reshard_create.specs.Begun.{AreSources, HasBegun, IsCreateRefusal};
 ghost use Rattle.reshard_create.specs.inner.Created.{IsSurvey};
 
@@ -17,16 +17,15 @@ use crate::config::ReshardConfig;
 use crate::looks::look_at_each;
 use crate::partition_parts::choose;
 use crate::sources::find_sources;
+use crate::split::MOST_PARTS;
 use crate::targets::make_targets;
 use journal::{Naming, ShardSeat};
 use keyrange::KeyRange;
 use reshard_cutover::{ReshardFault, SourceShard, TargetShard};
-use reshard_split::MOST_PARTS;
 use serving::{Partition, ShardReference};
-use shard::{Shard, ShardLaw, ShardPass, World};
+use shard::{Shard, ShardLaw, ShardPass, VSchema, World};
 use std::alloc::{AllocError, Global};
 use std::sync::Wait;
-use vschema::VSchema;
 
 /// Sources, the targets that replace them, and the parts that stay.
 #[derive(Drop)]

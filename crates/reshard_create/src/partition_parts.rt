@@ -1,6 +1,6 @@
 //! Which parts of a partition are named, and the ranges once targets replace them.
 ghost use Rattle.std.specs.Prelude.{◌≡◌, ◌++◌, ◌∷◌, [], ◌↔◌, IsTrue, not, true, IfOk, OnOk, Contains, false};
-ghost use Rattle.reshard_split.specs.Choices.{DoNotOverlap};
+ghost use Rattle.reshard_create.specs.split.Choices.{DoNotOverlap};
 ghost use Rattle.reshard_create.specs.inner.Created.{AreNamed};
 ghost use Rattle.keyrange.specs.Ranges.{Overlap};
 ghost use Rattle.std.specs.List.{AllByRecursion};

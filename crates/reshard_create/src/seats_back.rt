@@ -4,9 +4,8 @@ ghost use Rattle.std.specs.List.{AllByRecursion};
 ghost use Rattle.shard_law.specs.Entries as entries_of;
 ghost use Rattle.reshard_create.specs.Configs.{IsFree};
 
-use follow::WorkflowShard;
 use journal::{Naming, ShardSeat};
-use reshard_cutover::TargetShard;
+use reshard_cutover::{TargetShard, WorkflowShard};
 use shard::{Shard, ShardLaw, ShardState, World};
 use std::alloc::Global;
 use std::sync::{Arc, Wait};

@@ -6,8 +6,8 @@ ghost use Rattle.keyrange.specs.Names.{IsNamed};
 ghost use Rattle.journal.specs.Runs.{IsLegal};
 ghost use Rattle.shard_run.specs.Openings.{IsOpening};
 ghost use Rattle.shard_law.specs.Entries.{MayFollow};
-ghost use Rattle.follow.specs.Steps.{IsOnward};
-ghost use Rattle.reshard_split.specs.Splits.{target_seats, AreOverlapped};
+ghost use Rattle.reshard_cutover.specs.FollowSteps.{IsOnward};
+ghost use Rattle.reshard_create.specs.split.Splits.{target_seats, AreOverlapped};
 ghost use Rattle.shard.specs.Seats.{seat_of};
 ghost use Rattle.reshard_create.specs.Configs.{IsFree, IsReshardConfig};
 ghost use Rattle.reshard_create.specs.Begun.{IsServing, IsAway};
@@ -16,18 +16,17 @@ ghost use Rattle.reshard_create.specs.inner.Created.{IsSeenAt, HasSeen, IsMade, 
 use crate::config::ReshardConfig;
 use crate::looks::look_at;
 use crate::seats_back::{give_back, put, seat_back};
-use follow::WorkflowShard;
+use crate::split::overlapping_sources;
 use journal::{Naming, ShardSeat};
 use keyrange::KeyRange;
-use reshard_cutover::{SourceShard, TargetShard, serves};
-use reshard_split::overlapping_sources;
+use reshard_cutover::{SourceShard, TargetShard, WorkflowShard, serves};
 use serving::ShardReference;
-use shard::{Limits, Shard, ShardLaw, ShardPass, ShardState, Store, World};
-use shard_contents::copy_shard;
+use shard::{
+    Limits, Place, Shard, ShardLaw, ShardPass, ShardState, Store, VSchema, World, copy_shard,
+};
 use shard_run::Mode;
 use std::alloc::{AllocError, Global};
 use std::sync::{Arc, Wait};
-use vschema::{Place, VSchema};
 
 fn member_of<W: World, J: Naming>(
     part: &ShardReference<Shard<W, J>>,

@@ -7,3 +7,4 @@ pub mod Residual
 pub mod Moving
 pub mod Permuted
 pub mod Prepares
+pub use Rattle.follow.proofs.Moves

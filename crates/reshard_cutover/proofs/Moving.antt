@@ -8,7 +8,7 @@ use Rattle.shard_run.specs.declared.ShardRecord.{ShardRecord}
 use Rattle.shard_run.specs.declared.Entry.{Entry}
 use Rattle.shard_run.specs.declared.Event.TheVariants as events
 use Rattle.shard_run.specs.Runs.{Opening, Run}
-use Rattle.shard_law.proofs.Lists.{all-weaker, AllByRecursion-push}
+use Rattle.shard_contents.proofs.Lists.{all-weaker, AllByRecursion-push}
 use Rattle.shard_contents.proofs.Progress.{take_whole}
 use Rattle.follow.specs.declared.steps.Step.{Step}
 use Rattle.follow.specs.declared.steps.Step.TheVariants.{Copied, Followed, Level}
@@ -18,7 +18,7 @@ use Rattle.follow.proofs.Moves.{level_later, split_at}
 use Rattle.reshard_cutover.specs.TargetSources.{TargetWithSources}
 use Rattle.vt_value.specs.declared.refusal.Refusal.{Refusal}
 use Rattle.vt_value.specs.declared.refusal.Refusal.TheVariants.{OutOfMemory, ShardFull}
-use Rattle.shard_law.specs.declared.limits.Limits.{Limits}
+use Rattle.shard_contents.specs.Limits.{Limits}
 use Rattle.reshard_cutover.specs.declared.fault.ReshardFault.TheVariants.{Refused}
 use Rattle.reshard_cutover.specs.FirstMoves.{HasMovedFirst, IsMoveRefusal}
 use Rattle.reshard_cutover.specs.FirstMoves as firstmoves_of

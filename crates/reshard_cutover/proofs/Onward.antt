@@ -9,13 +9,13 @@ use Rattle.shard_run.specs.declared.ShardRecord.{ShardRecord}
 use Rattle.shard_run.specs.declared.Event.{Event}
 use Rattle.shard_run.specs.declared.Entry.{Entry}
 use Rattle.shard_run.specs.Runs.{Run, Opening, entries_on, stored_on, is_on, is_stored}
-use Rattle.shard_law.specs.Legal.{Legal}
-use Rattle.shard_law.proofs.Law.{beginnings}
-use Rattle.shard_law.proofs.Runs.{stored_on-push}
-use Rattle.shard_law.specs.Entries.{slot_of, commit_of, MayFollow, HasLooked, HasAppended, ShardView}
+use Rattle.shard_contents.specs.Legal.{Legal}
+use Rattle.shard_contents.proofs.Law.{beginnings}
+use Rattle.shard_contents.proofs.Runs.{stored_on-push}
+use Rattle.shard_contents.specs.Entries.{slot_of, commit_of, MayFollow, HasLooked, HasAppended, ShardView}
 use Rattle.shard_contents.proofs.States.{stored_in, stored-same, contains_later}
 use Rattle.follow.specs.Steps.{IsOnward, HasStepped}
-use Rattle.shard.specs.Modes.{HasChangedMode}
+use Rattle.follow.specs.Modes.{HasChangedMode}
 use Rattle.follow.proofs.Onward as follows
 use Rattle.reshard_cutover.specs.Steps.{HasEntry}
 

@@ -3,7 +3,7 @@ use Rattle.std.proofs.Common.{List}
 use Rattle.std.specs.Prelude.{IsPermutation}
 use Rattle.std.specs.List.{AllByRecursion}
 use Rattle.std.proofs.lemmas.List.Sorted.{Contains-permutation, IsPermutation-sym}
-use Rattle.shard_law.proofs.Lists.{In-from_Contains, Contains-from_In, In-all, all-from_In}
+use Rattle.shard_contents.proofs.Lists.{In-from_Contains, Contains-from_In, In-all, all-from_In}
 
 pub all_permuted : {X : Type 0} (P : X → Type 0) (xs ys : List X) → IsPermutation xs ys → AllByRecursion P xs → AllByRecursion P ys
 all_permuted P xs ys perm all =

@@ -5,17 +5,17 @@ use Rattle.std.specs.List.{AllByRecursion, list_any}
 use Rattle.std.proofs.lemmas.Bool.{eq-eqb}
 use Rattle.std.proofs.lemmas.List.{length-map, take_more, map-append}
 use mathlib.Core.List.{IsPrefix}
-use Rattle.vschema.specs.declared.schema.Place.{Place}
+use Rattle.shard_contents.specs.Place.{Place}
 use Rattle.shard_run.specs.declared.ShardRecord.{ShardRecord}
 use Rattle.shard_run.specs.declared.Mode.TheVariants.{Following, Retired}
 use Rattle.shard_run.specs.declared.Event.TheVariants.{Retire}
 use Rattle.shard_run.specs.Runs.{Run, Opening, mode, stored_on, entries_on}
-use Rattle.shard_law.specs.Legal.{Legal, MayServe, IsRetiredFor}
+use Rattle.shard_contents.specs.Legal.{Legal, MayServe, IsRetiredFor}
 use Rattle.shard_run.specs.Copies.{position}
 use Rattle.shard_run.specs.Openings.{IsOpening}
 use Rattle.shard_contents.specs.Copying.{HasCopiedAll}
-use Rattle.shard_law.proofs.Lists.{In, In-from_Contains, In-map, In-from_map, In-all, all-weaker, AllByRecursion-push}
-use Rattle.shard_law.proofs.Law.{slots}
+use Rattle.shard_contents.proofs.Lists.{In, In-from_Contains, In-map, In-from_map, In-all, all-weaker, AllByRecursion-push}
+use Rattle.shard_contents.proofs.Law.{slots}
 use Rattle.shard_contents.proofs.States.{stored-same}
 use Rattle.shard_contents.proofs.Positions.{position-same, copied_all-same}
 use Rattle.shard_contents.proofs.Modes.{retired_stays}

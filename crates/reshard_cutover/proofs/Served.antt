@@ -9,10 +9,10 @@ use Rattle.shard_run.specs.declared.Event.{Event}
 use Rattle.shard_run.specs.declared.Event.TheVariants.{Commit, Follow, Copy, Freeze, Thaw, Retire, Serve}
 use Rattle.shard_run.specs.declared.Entry.{Entry}
 use Rattle.shard_run.specs.Runs.{Run, Opening, mode, mode_after, is_on, is_opening}
-use Rattle.shard_law.specs.Legal.{Legal, LegalFrom, May, IsOnItsSlot}
+use Rattle.shard_contents.specs.Legal.{Legal, LegalFrom, May, IsOnItsSlot}
 use Rattle.shard_run.specs.Openings.{IsOpening, OpensWith}
-use Rattle.shard_law.proofs.Lists.{In, In-from_Contains, Contains-from_In, In-from_map, In-all, In-left, In-last}
-use Rattle.shard_law.proofs.Runs.{mode-on, mode-off}
+use Rattle.shard_contents.proofs.Lists.{In, In-from_Contains, Contains-from_In, In-from_map, In-all, In-left, In-last}
+use Rattle.shard_contents.proofs.Runs.{mode-on, mode-off}
 use Rattle.reshard_cutover.specs.Steps.{HasEntry}
 
 -- an entry by which the shard on the slot serves

@@ -11,12 +11,12 @@ use Rattle.shard_run.specs.declared.Mode.{Mode}
 use Rattle.shard_run.specs.declared.Mode.TheVariants.{Serving, Retired}
 use Rattle.shard_run.specs.Runs.{Opening, Run, shard_rows, mode, mode_after, is_on}
 use Rattle.shard_run.specs.Openings.{row_count}
-use Rattle.shard_law.specs.declared.limits.Limits.{Limits}
+use Rattle.shard_contents.specs.Limits.{Limits}
 use Rattle.reshard_cutover.specs.TargetSources.{TargetWithSources}
-use Rattle.shard_law.proofs.Runs.{mode-on}
-use Rattle.shard_law.proofs.Lists.{all-weaker}
-use Rattle.shard_law.specs.Entries.{ShardView, HasAppended}
-use Rattle.shard.specs.Modes.{HasChangedMode}
+use Rattle.shard_contents.proofs.Runs.{mode-on}
+use Rattle.shard_contents.proofs.Lists.{all-weaker}
+use Rattle.shard_contents.specs.Entries.{ShardView, HasAppended}
+use Rattle.follow.specs.Modes.{HasChangedMode}
 use Rattle.follow.specs.Steps.{IsOnward}
 use Rattle.follow.specs.Turns.{HasLookedAt}
 use Rattle.follow.proofs.Turns.{unlooked, looked_at, looked_then, appended_since}

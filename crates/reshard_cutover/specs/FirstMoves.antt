@@ -3,7 +3,7 @@ use Rattle.std.specs.Prelude.{◌≡◌, ◌+◌, ◌++◌, ◌∷◌, List, Con
 use Rattle.std.specs.List.{AllByRecursion}
 use Rattle.journal.specs.Views.{PassView}
 use Rattle.vt_value.specs.declared.refusal.Refusal.TheVariants.{OutOfMemory, ShardFull}
-use Rattle.shard_law.specs.declared.limits.Limits.{Limits}
+use Rattle.shard_contents.specs.Limits.{Limits}
 use Rattle.shard_run.specs.declared.Entry.{Entry}
 use Rattle.shard_run.specs.Runs.{Opening}
 use Rattle.follow.specs.Steps.{HasMovedWith, IsFull}

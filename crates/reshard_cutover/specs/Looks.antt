@@ -8,7 +8,7 @@ use Rattle.shard_run.specs.declared.Event.TheVariants as events
 use Rattle.shard_run.specs.declared.Mode.TheVariants as modes
 use Rattle.shard_run.specs.Runs.{Opening, Run, mode, shard_rows}
 use Rattle.shard_run.specs.Openings.{row_count}
-use Rattle.shard_law.specs.declared.limits.Limits.{Limits}
+use Rattle.shard_contents.specs.Limits.{Limits}
 use Rattle.follow.specs.Steps.{IsOnward, IsRunBetween}
 use Rattle.follow.specs.Turns.{HasLookedAt}
 use Rattle.reshard_cutover.specs.Steps.{HasEntry}

@@ -5,7 +5,7 @@ use Rattle.shard_run.specs.declared.ShardRecord.{ShardRecord}
 use Rattle.shard_run.specs.declared.Event.{Event}
 use Rattle.shard_run.specs.declared.Event.TheVariants.{Retire}
 use Rattle.shard_run.specs.Runs.{Run, stored_on}
-use Rattle.shard_law.specs.Legal.{TogetherHold, PlacesOverlap}
+use Rattle.shard_contents.specs.Legal.{TogetherHold, PlacesOverlap}
 
 -- a source, and how many entries it has stored
 abbrev pub Looked : Type 0

@@ -3,7 +3,7 @@ ghost use Rattle.std.specs.Prelude.{List, Contains, IsTrue, map};
 ghost use Rattle.std.specs.List.{AllByRecursion};
 ghost use Rattle.journal.specs.Runs.{IsLegal};
 ghost use Rattle.shard_run.specs.Openings.{IsOpening};
-ghost use Rattle.shard_law.specs.Entries.{MayFollow};
+ghost use Rattle.shard_contents.specs.Entries.{MayFollow};
 ghost use Rattle.follow.specs.Steps.{IsOnward};
 ghost use Rattle.follow.specs.Turns.{EachInTurn};
 ghost use Rattle.reshard_cutover.specs.Steps.{has_source, IsRetired, AreRetired};
@@ -11,9 +11,8 @@ ghost use Rattle.reshard_cutover.specs.Looks.{HasLookedOnlyAt, IsGone, HasBegunT
 
 use crate::steps::{SourceShard, is_source_of, serves};
 use crate::target::TargetShard;
-use follow::WorkflowShard;
+use follow::{ShardPass, WorkflowShard, World};
 use journal::Naming;
-use shard::{ShardPass, World};
 use shard_run::ShardRecord;
 use std::sync::Wait;
 

@@ -5,9 +5,9 @@ ghost use Rattle.reshard_cutover.specs.Steps.{has_source, named_for};
 
 use crate::steps::{SourceShard, is_source_of};
 use crate::target::TargetShard;
+use follow::{Shard, World};
 use journal::Naming;
 use serving::{Partition, ShardReference, copy_part};
-use shard::{Shard, World};
 use shard_contents::copy_shard;
 use std::alloc::{AllocError, Global};
 use std::cmp::Ordering;

@@ -3,14 +3,13 @@ ghost use Rattle.std.specs.Prelude.{◌≡◌, true, map};
 ghost use Rattle.std.specs.List.{AllByRecursion};
 ghost use Rattle.journal.specs.Runs.{IsLegal};
 ghost use Rattle.shard_run.specs.Runs.{mode};
-ghost use Rattle.shard_law.specs.Entries.{MayFollow};
+ghost use Rattle.shard_contents.specs.Entries.{MayFollow};
 ghost use Rattle.follow.specs.Steps.{IsOnward};
 ghost use Rattle.reshard_cutover.specs.Looks.{IsOutOfUse};
 
 use crate::steps::SourceShard;
-use follow::WorkflowShard;
+use follow::{ShardPass, ShardState, WorkflowShard, World};
 use journal::Naming;
-use shard::{ShardPass, ShardState, World};
 use shard_run::Mode;
 use std::sync::Wait;
 

@@ -4,16 +4,15 @@ ghost use Rattle.std.specs.List.{AllByRecursion};
 ghost use Rattle.journal.specs.Runs.{IsLegal};
 ghost use Rattle.shard_run.specs.Runs.{shard_rows};
 ghost use Rattle.shard_run.specs.Openings.{row_count};
-ghost use Rattle.shard_law.specs.Entries.{MayFollow};
+ghost use Rattle.shard_contents.specs.Entries.{MayFollow};
 ghost use Rattle.follow.specs.Steps.{IsOnward};
 ghost use Rattle.follow.specs.Turns.{EachInTurn};
 ghost use Rattle.reshard_cutover.specs.TargetSources.{TargetWithSources};
 ghost use Rattle.reshard_cutover.specs.Looks.{HasLookedOnlyAt, IsOverfull, IsWithinRows};
 
 use crate::target::TargetShard;
-use follow::{WorkflowShard, follows};
+use follow::{ShardPass, WorkflowShard, World, follows};
 use journal::Naming;
-use shard::{ShardPass, World};
 use std::sync::Wait;
 
 // Whether a target's rows fit, asked under its lock, once it follows.

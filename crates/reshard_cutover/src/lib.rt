@@ -18,6 +18,7 @@ pub use cutover_memory::{named_of_all, next_partition};
 pub use dropping::drop_all;
 pub use fault::ReshardFault;
 pub use fitting::all_fit;
+pub use follow::{Step, WorkflowShard};
 pub use next_move::move_first;
 pub use steps::{SourceShard, freeze, is_source_of, retire, serve, serves, thaw};
 pub use stored::{note_retired, note_stored};

@@ -1,21 +1,20 @@
 //! Targets come forward, one after the other.
 ghost use Rattle.std.specs.Prelude.{◌≡◌, IfOk, IfErr, OnErr, IsTrue, map};
-ghost use Rattle.vschema.specs.WellFormed.{is_vschema};
+ghost use Rattle.shard_contents.specs.WellFormed.{is_vschema};
 ghost use Rattle.journal.specs.Runs.{IsLegal};
 ghost use Rattle.shard_run.specs.Openings.{IsOpening};
-ghost use Rattle.shard_law.specs.Entries.{MayFollow};
+ghost use Rattle.shard_contents.specs.Entries.{MayFollow};
 ghost use Rattle.follow.specs.Steps.{IsOnward};
 ghost use Rattle.reshard_cutover.specs.Overlapping.{TakeFromOwn};
 ghost use Rattle.reshard_cutover.specs.FirstMoves.{HasMovedFirst, IsMoveRefusal, IsOneStepFirst, IsNoStepFirst};
 
 use crate::fault::ReshardFault;
 use crate::target::TargetShard;
-use follow::{Step, bring_forward_with};
+use follow::{ShardPass, Step, World, bring_forward_with};
 use journal::Naming;
-use shard::{ShardPass, World};
+use shard_contents::VSchema;
 use std::alloc::Global;
 use std::sync::Wait;
-use vschema::VSchema;
 use vt_value::Refusal;
 
 /// Brings the first of the targets forward that isn't level, by one entry.

@@ -4,19 +4,18 @@ ghost use Rattle.journal.specs.Runs.{IsLegal};
 ghost use Rattle.shard_run.specs.declared.Event.{Event};
 ghost use Rattle.shard_run.specs.Runs.{mode, stored_on, entries_on, shard_rows};
 ghost use Rattle.shard_run.specs.Openings.{IsOpening, row_count};
-ghost use Rattle.shard_law.specs.Entries.{MayFollow};
+ghost use Rattle.shard_contents.specs.Entries.{MayFollow};
 ghost use Rattle.follow.specs.Steps.{IsOnward, HasStepped};
 ghost use Rattle.follow.specs.Turns.{HasLookedAt};
 ghost use Rattle.reshard_cutover.specs.Looks.{HasLookedForOneChange, HasLookedOnlyAt};
 ghost use Rattle.reshard_cutover.specs.Steps.{has_source, AreRetired, IsTargetOf, FitTargets};
 ghost use Rattle.reshard_cutover.specs.inner.Steps.{IsUpTo, AreFollowed};
 
-use follow::{WorkflowShard, follows};
+use follow::{MOST_ENTRIES, Shard, ShardPass, ShardState, WorkflowShard, World, follows};
 use journal::Naming;
-use shard::{MOST_ENTRIES, Shard, ShardPass, ShardState, World};
+use shard_contents::VSchema;
 use shard_run::Mode;
 use std::sync::Wait;
-use vschema::VSchema;
 use vt_value::{Items, Refusal};
 
 /// A source of a workflow, and how many entries it had stored when it was looked at, frozen.

@@ -3,8 +3,8 @@ ghost use Rattle.std.specs.Prelude.{◌≡◌, ◌<◌, length, map, slice_set};
 
 use crate::steps::{SourceShard, is_source_of};
 use crate::target::TargetShard;
+use follow::{ShardState, World};
 use journal::Naming;
-use shard::{ShardState, World};
 use shard_run::Mode;
 use std::sync::Wait;
 

@@ -1,6 +1,5 @@
-use follow::WorkflowShard;
+use follow::{WorkflowShard, World};
 use journal::Naming;
-use shard::World;
 
 /// A target, and those of the workflow's sources that overlap it.
 #[derive(Drop)]

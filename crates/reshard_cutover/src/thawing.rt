@@ -2,15 +2,14 @@
 ghost use Rattle.std.specs.Prelude.{map};
 ghost use Rattle.std.specs.List.{AllByRecursion};
 ghost use Rattle.journal.specs.Runs.{IsLegal};
-ghost use Rattle.shard_law.specs.Entries.{MayFollow};
+ghost use Rattle.shard_contents.specs.Entries.{MayFollow};
 ghost use Rattle.follow.specs.Steps.{IsOnward};
 ghost use Rattle.follow.specs.Turns.{EachInTurn};
 ghost use Rattle.reshard_cutover.specs.Looks.{HasThawed, IsServingAgain};
 
 use crate::steps::{SourceShard, serves};
-use follow::{WorkflowShard, answers};
+use follow::{ShardPass, WorkflowShard, World, answers};
 use journal::Naming;
-use shard::{ShardPass, World};
 use std::sync::Wait;
 
 // Thaws a source under its lock, once it serves or is frozen, and has it drop what it keeps for its targets.

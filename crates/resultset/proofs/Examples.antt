@@ -4,6 +4,7 @@ use Rattle.std.specs.Fmt.{decimal, digits}
 use Rattle.std.proofs.lemmas.Fmt.{decimal_digit}
 use Rattle.mysql_packet.specs.Numbers.{length_encoded_string}
 use Rattle.mysql_message.specs.Messages.{eof_payload, set_end_payload}
+use Rattle.mysql_message.specs.TextValues.{value_bytes}
 use Rattle.std.specs.Prelude.{codes}
 use Rattle.vt_value.specs.declared.value.Value.TheVariants.{Null, Int, Bytes}
 use Rattle.mysql_packet.specs.Frames.{frames_from, number_after_all}
@@ -11,7 +12,7 @@ use Rattle.resultset.specs.declared.Kind.TheVariants.{BigInt, BigIntUnsigned, Va
 use Rattle.resultset.specs.declared.Column.{Column}
 use Rattle.resultset.specs.declared.SetEnd.TheVariants.{EofPackets, OkPacket}
 use Rattle.resultset.specs.declared.Outcome.TheVariants.{Rows}
-use Rattle.resultset.specs.Encoding.{value_bytes, row_payload, encoded, definition_payload, fixed_fields, FitsKind}
+use Rattle.resultset.specs.Encoding.{row_payload, encoded, definition_payload, fixed_fields, FitsKind}
 
 -- t.id, a BIGINT UNSIGNED primary key, and t.c, which may be NULL
 abbrev id : Column

@@ -4,9 +4,10 @@ use Rattle.std.proofs.lemmas.List.{take_all, drop_all, take_more, append-nil}
 use Rattle.std.proofs.lemmas.List.Concat.{flat_map-cons}
 use Rattle.vt_value.specs.declared.value.Value.{Value}
 use Rattle.vt_value.specs.Values.{Row}
+use Rattle.mysql_message.specs.TextValues.{value_bytes}
 use Rattle.resultset.specs.declared.unread.Unread.{Unread}
 use Rattle.resultset.specs.declared.Column.{Column}
-use Rattle.resultset.specs.Encoding.{FitsKind, RowFits, row_payload, value_bytes}
+use Rattle.resultset.specs.Encoding.{FitsKind, RowFits, row_payload}
 use Rattle.resultset.specs.inner.Reading.{IsMemory}
 
 -- Of a row these values are read already, and these bytes are the rest of them.

@@ -1,7 +1,6 @@
 -- The packets of a result: the text protocol of the MySQL client/server protocol, with EOF packets, and without them if
 -- client and server set CLIENT_DEPRECATE_EOF.
 use Rattle.std.specs.Prelude.{◌≡◌, ℕ, ℤ, pos, negsuc, neg_ℤ, ◌^◌, ◌<◌, ◌≤◌, ◌≤ℤ◌, List, [], ◌∷◌, ◌++◌, length, map, flat_map, codes}
-use Rattle.std.specs.Fmt.{signed_decimal}
 use Rattle.std.specs.List.{AllByRecursion}
 use Rattle.vt_value.specs.declared.value.Value.{Value}
 use Rattle.vt_value.specs.declared.value.Value.TheVariants.{Null, Int, Bytes}
@@ -9,6 +8,7 @@ use Rattle.vt_value.specs.Values.{Row}
 use Rattle.mysql_packet.specs.Numbers.{little_endian, length_encoded, length_encoded_string}
 use Rattle.mysql_packet.specs.Frames.{frames_from}
 use Rattle.mysql_message.specs.Messages.{ok_payload, eof_payload, set_end_payload, err_payload}
+use Rattle.mysql_message.specs.TextValues.{value_bytes}
 use Rattle.resultset.specs.declared.Kind.{Kind}
 use Rattle.resultset.specs.declared.Kind.TheVariants.{BigInt, BigIntUnsigned, VarBinary, Count as count_kind, Sum}
 use Rattle.resultset.specs.declared.Column.{Column}
@@ -18,12 +18,6 @@ use Rattle.resultset.specs.declared.SetEnd.TheVariants.{EofPackets, OkPacket}
 use Rattle.resultset.specs.declared.Outcome.{Outcome}
 use Rattle.resultset.specs.declared.Outcome.TheVariants.{Rows, Count, Refused}
 use Rattle.resultset.specs.Flags.{type_of, length_of}
-
--- a value in a text row: NULL is the byte FB, a number its plain decimal, a text itself
-abbrev pub value_bytes : Value → List ℕ
-value_bytes Null = 0xFB ∷ []
-value_bytes (Int n) = length_encoded_string (signed_decimal n)
-value_bytes (Bytes t) = length_encoded_string t
 
 abbrev pub row_payload : Row → List ℕ
 row_payload row = flat_map value_bytes row

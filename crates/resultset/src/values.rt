@@ -1,7 +1,8 @@
 //! Values of text rows.
 ghost use Rattle.std.specs.Prelude.{◌≡◌, ℤ, ◌↔◌, IsTrue, List, ℕ, ◌++◌, IfOk, Some};
 ghost use Rattle.std.specs.Fmt.{signed_decimal};
-ghost use Rattle.resultset.specs.Encoding.{FitsKind, value_bytes};
+ghost use Rattle.mysql_message.specs.TextValues.{value_bytes};
+ghost use Rattle.resultset.specs.Encoding.{FitsKind};
 ghost use Rattle.resultset.specs.inner.Reading.{OnceRead, IsWide};
 
 use crate::Kind;

@@ -3,17 +3,16 @@ ghost use Rattle.std.specs.Prelude.{◌≡◌, ◌+◌, ◌≤◌, ◌∷◌, []
 ghost use Rattle.mysql_packet.specs.Numbers.{little_endian, length_encoded};
 ghost use Rattle.mysql_packet.specs.Frames.{frame, frames_from, number_after, number_after_all};
 ghost use Rattle.resultset.specs.Flags.{type_of, length_of};
-ghost use Rattle.resultset.specs.Encoding.{value_bytes, row_payload, definition_payload, name_fields};
+ghost use Rattle.resultset.specs.Encoding.{row_payload, definition_payload, name_fields};
 ghost use Rattle.resultset.specs.Encoding.{fixed_fields, after_definitions, after_rows, set_payloads, payloads_of, encoded, IsSmall};
 ghost use Rattle.resultset.specs.inner.Heads.{head_payloads};
 
 use crate::{Column, Kind, Outcome, ResultSet, SetEnd};
 use bytes::BytesMut;
-use itoa::Buffer;
 use mysql_message::numbers::{
     little_endian, put_bytes, put_length_encoded, put_length_encoded_string,
 };
-use mysql_message::{put_eof, put_err, put_ok, put_set_end};
+use mysql_message::{put_eof, put_err, put_ok, put_set_end, put_text_value};
 use mysql_packet::put_payload;
 use std::alloc::{AllocError, Global};
 use vt_value::{Row, Value};
@@ -265,19 +264,7 @@ pub(crate) fn put_row(row: &[Value], payload: &mut BytesMut) -> Result<(), Alloc
     ensures capacity { length payload.old.items + payload.old.spare ≤ length payload.new.items + payload.new.spare }
 {
     for value in row {
-        put_value(value, payload)?;
-    }
-    Ok(())
-}
-
-fn put_value(value: &Value, payload: &mut BytesMut) -> Result<(), AllocError>
-    ensures ok { OnOk result (payload.new.items ≡ payload.old.items ++ value_bytes value.now) }
-    ensures capacity { length payload.old.items + payload.old.spare ≤ length payload.new.items + payload.new.spare }
-{
-    match value {
-        Value::Null => put_bytes(&[0xFB], payload)?,
-        Value::Int(n) => put_length_encoded_string(Buffer::new().format(*n).as_bytes(), payload)?,
-        Value::Bytes(text) => put_length_encoded_string(text.as_slice(), payload)?,
+        put_text_value(value, payload)?;
     }
     Ok(())
 }

@@ -10,9 +10,9 @@ use Rattle.vschema.specs.Database.{Database, SameRows, rows_of, restrict, all_ap
 use Rattle.vschema.specs.Sources.{source_rows, SourcesThere, JoinsInPlace}
 use Rattle.vschema.specs.TypedWrites.{IsTypedWrite}
 use Rattle.vschema.specs.WellFormed.{is_vschema}
-use Rattle.sql_eval.specs.Queries.{IsAnswer}
-use Rattle.sql_eval.specs.Writes.{written_table, changes_of}
-use Rattle.sql_eval.proofs.ChangeLemmas.{same_changes, rows-same}
+use Rattle.shard_contents.specs.Queries.{IsAnswer}
+use Rattle.shard_contents.specs.Writes.{written_table, changes_of}
+use Rattle.shard_contents.proofs.ChangeLemmas.{same_changes, rows-same}
 use Rattle.journal.specs.Runs.{IsLegal, NumbersBelow, by_session}
 use Rattle.journal.specs.Views.{PassView}
 use Rattle.journal.proofs.Fronts.{prefix_trans}
@@ -21,13 +21,13 @@ use Rattle.shard_run.specs.declared.Mode.TheVariants.{Serving}
 use Rattle.shard_run.specs.declared.ShardRecord.{ShardRecord}
 use Rattle.shard_run.specs.declared.Entry.{Entry}
 use Rattle.shard_run.specs.Runs.{Run, Opening, database, shard_rows, mode, answers_queries}
-use Rattle.shard_law.specs.Legal.{IsOnItsSlot}
+use Rattle.shard_contents.specs.Legal.{IsOnItsSlot}
 use Rattle.shard_run.specs.Openings.{IsOpening}
-use Rattle.shard_law.specs.Entries.{MayFollow, commit_of}
+use Rattle.shard_contents.specs.Entries.{MayFollow, commit_of}
 use Rattle.shard_contents.specs.Transactions.{PendingView, entry_of}
 use Rattle.shard_contents.proofs.Legality.{legal_is, part_held}
-use Rattle.shard.proofs.Moves.{pending_may}
-use Rattle.shard.proofs.Pendings.{legal_then, stands_then, held_then, one_then, serves_then}
+use Rattle.shard_calls.proofs.Moves.{pending_may}
+use Rattle.shard_calls.proofs.Pendings.{legal_then, stands_then, held_then, one_then, serves_then}
 use Rattle.shard_calls.specs.declared.reply.Selected.{Selected}
 use Rattle.shard_calls.specs.declared.reply.Answer.TheVariants.{Rows, Count}
 use Rattle.shard_calls.specs.Answers.{WritesAlone, needed_by}

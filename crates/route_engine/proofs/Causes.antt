@@ -8,22 +8,22 @@ use Rattle.std.proofs.lemmas.List.Elements.{filter-append}
 use mathlib.Core.List.{IsPrefix}
 use Rattle.journal.specs.Runs.{IsLegal, by_session}
 use Rattle.journal.proofs.Fronts.{prefix_trans}
-use Rattle.shard_law.proofs.Has.{of_shard}
-use Rattle.shard_law.proofs.Law.{slots, legal_back}
-use Rattle.shard_law.proofs.Lists.{In, In-all, In-right, In-filter, In-from_filter, Contains-from_In}
-use Rattle.shard_law.proofs.Since.{not_again}
+use Rattle.shard_contents.proofs.Has.{of_shard}
+use Rattle.shard_contents.proofs.Law.{slots, legal_back}
+use Rattle.shard_contents.proofs.Lists.{In, In-all, In-right, In-filter, In-from_filter, Contains-from_In}
+use Rattle.shard_contents.proofs.Since.{not_again}
 use Rattle.shard_run.specs.declared.Mode.TheVariants.{Following, Serving}
 use Rattle.shard_run.specs.declared.ShardRecord.{ShardRecord}
 use Rattle.shard_run.specs.declared.Entry.{Entry}
 use Rattle.shard_run.specs.declared.Event.{Event}
 use Rattle.shard_run.specs.declared.Event.TheVariants.{Commit, Follow, Copy, Freeze, Thaw, Retire, Serve}
 use Rattle.shard_run.specs.Runs.{Run, Opening, mode, answers_queries, is_on, is_stored, stored_on}
-use Rattle.shard_law.specs.Legal.{LegalFrom, May, IsOnItsSlot}
+use Rattle.shard_contents.specs.Legal.{LegalFrom, May, IsOnItsSlot}
 use Rattle.shard_run.specs.Openings.{IsOpening}
 use Rattle.shard_contents.specs.declared.touched_table.Touch.{Touch}
-use Rattle.shard_law.specs.Entries.{MayFollow, commit_of}
+use Rattle.shard_contents.specs.Entries.{MayFollow, commit_of}
 use Rattle.shard_contents.specs.Transactions.{changes_table, is_changed, is_conflict}
-use Rattle.shard.proofs.Conflicts.{stored_is}
+use Rattle.shard_calls.proofs.Conflicts.{stored_is}
 use Rattle.shard_contents.proofs.Legality.{legal_is, of_run}
 use Rattle.shard_calls.specs.Transactions.{TransactionStatement, IsConflict}
 use Rattle.shard_calls.specs.Pendings.{IsTouchOf}

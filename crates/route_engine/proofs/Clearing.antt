@@ -3,15 +3,15 @@ use Rattle.std.proofs.Common.{◌≡◌, ℕ, zero, suc, ◌≤◌, Bool, true, 
 use Rattle.std.specs.Prelude.{Contains}
 use Rattle.std.specs.List.{AllByRecursion, list_any}
 use Rattle.std.proofs.lemmas.Bool.{false≢true, and_from, eqb-true, eq-eqb}
-use Rattle.shard_law.proofs.Lists.{In, In-left, In-right, In-last, In-all, In-filter, In-from_Contains, Contains-from_In, AllByRecursion-push, all-weaker}
+use Rattle.shard_contents.proofs.Lists.{In, In-left, In-right, In-last, In-all, In-filter, In-from_Contains, Contains-from_In, AllByRecursion-push, all-weaker}
 use Rattle.shard_run.specs.declared.Event.TheVariants.{Commit}
 use Rattle.shard_run.specs.declared.ShardRecord.{ShardRecord}
 use Rattle.shard_run.specs.declared.Entry.{Entry}
 use Rattle.shard_run.specs.Runs.{Run, Opening, is_on, is_stored, stored_on}
 use Rattle.shard_contents.specs.declared.touched_table.Touch.{Touch}
 use Rattle.shard_contents.specs.Transactions.{changes_table, is_changed, is_conflict, is_touched, touched_with, touched_all}
-use Rattle.shard.proofs.Conflicts.{stored_is}
-use Rattle.shard.proofs.Moves.{touch_of, all_touched}
+use Rattle.shard_calls.proofs.Conflicts.{stored_is}
+use Rattle.shard_calls.proofs.Moves.{touch_of, all_touched}
 use Rattle.shard_calls.specs.Transactions.{TransactionStatement, IsConflict, tables_of}
 use Rattle.shard_calls.specs.Pendings.{HasTouched}
 use Rattle.route_engine.proofs.Causes.{found}

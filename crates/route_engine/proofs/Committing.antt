@@ -13,9 +13,9 @@ use Rattle.vschema.specs.declared.changes.RowChange.{RowChange}
 use Rattle.vschema.specs.Database.{Database, restrict, all_applied}
 use Rattle.vschema.specs.TypedWrites.{IsTypedWrite}
 use Rattle.vschema.specs.WellFormed.{is_vschema}
-use Rattle.sql_eval.specs.Writes.{written_table}
-use Rattle.planner.specs.declared.routes.Route.{Route}
-use Rattle.planner.specs.Routes.{table_at, write_route}
+use Rattle.shard_contents.specs.Writes.{written_table}
+use Rattle.shard_calls.specs.Route.{Route}
+use Rattle.shard_calls.specs.Routes.{table_at, write_route}
 use Rattle.journal.specs.Runs.{IsLegal}
 use Rattle.journal.specs.Views.{PassView}
 use Rattle.journal.proofs.Fronts.{prefix_self, legal_front}
@@ -24,16 +24,16 @@ use Rattle.shard_run.specs.declared.Mode.TheVariants.{Following, Serving}
 use Rattle.shard_run.specs.declared.Entry.{Entry}
 use Rattle.shard_run.specs.Runs.{Opening, database, mode}
 use Rattle.shard_run.specs.Openings.{IsOpening}
-use Rattle.shard_law.specs.Legal.{IsOnItsSlot, IsChangeOf}
-use Rattle.shard_law.proofs.Lists.{In, Contains-from_In}
+use Rattle.shard_contents.specs.Legal.{IsOnItsSlot, IsChangeOf}
+use Rattle.shard_contents.proofs.Lists.{In, Contains-from_In}
 use Rattle.serving.specs.Partitions.{Seat, IsPartition, AreOf}
-use Rattle.shard_law.specs.declared.limits.Limits.{Limits}
+use Rattle.shard_contents.specs.Limits.{Limits}
 use Rattle.shard_contents.specs.declared.outcomes.CommitOutcome.{CommitOutcome}
-use Rattle.shard_law.specs.Entries.{MayFollow, HasLooked}
+use Rattle.shard_contents.specs.Entries.{MayFollow, HasLooked}
 use Rattle.shard_contents.specs.Commits as c
 use Rattle.shard_contents.specs.Commits.{IsPlaced, HasCommitted, HasAnswered, IsCommitRefusal, commit_entry}
 use Rattle.shard_contents.proofs.Legality.{legal_is}
-use Rattle.shard.specs.Seats.{place_at}
+use Rattle.shard_calls.specs.Seats.{place_at}
 use Rattle.shard_calls.specs.declared.reply.Answer.TheVariants.{Count}
 use Rattle.shard_calls.specs.declared.reply.Tried.TheVariants.{Done}
 use Rattle.shard_calls.specs.Alone as over

@@ -13,10 +13,10 @@ use Rattle.vschema.specs.declared.changes.Write.{Write}
 use Rattle.vschema.specs.Sources.{SourcesThere, JoinsInPlace}
 use Rattle.vschema.specs.TypedWrites.{IsTypedWrite}
 use Rattle.vschema.specs.WellFormed.{is_vschema}
-use Rattle.sql_eval.specs.Queries.{IsAnswer}
-use Rattle.sql_eval.specs.Writes.{written_table}
-use Rattle.planner.specs.declared.routes.Route.{Route}
-use Rattle.planner.specs.Routes.{table_at, route_of, write_route}
+use Rattle.shard_contents.specs.Queries.{IsAnswer}
+use Rattle.shard_contents.specs.Writes.{written_table}
+use Rattle.shard_calls.specs.Route.{Route}
+use Rattle.shard_calls.specs.Routes.{table_at, route_of, write_route}
 use Rattle.journal.specs.Runs.{IsLegal, NumbersBelow}
 use Rattle.journal.specs.Views.{PassView}
 use Rattle.serving.specs.Partitions.{Seat, IsPartition, AreOf}
@@ -24,10 +24,10 @@ use Rattle.shard_run.specs.declared.ShardRecord.{ShardRecord}
 use Rattle.shard_run.specs.declared.Entry.{Entry}
 use Rattle.shard_run.specs.Runs.{Opening}
 use Rattle.shard_run.specs.Openings.{IsOpening}
-use Rattle.shard_law.specs.declared.limits.Limits.{Limits}
-use Rattle.shard_law.specs.Entries.{MayFollow, commit_of}
+use Rattle.shard_contents.specs.Limits.{Limits}
+use Rattle.shard_contents.specs.Entries.{MayFollow, commit_of}
 use Rattle.shard_contents.specs.Transactions.{PendingView, IsPendingOf}
-use Rattle.shard.proofs.LooksIn.{Of, session_of}
+use Rattle.shard_calls.proofs.LooksIn.{Of, session_of}
 use Rattle.shard_calls.specs.declared.reply.Answer.TheVariants.{Rows, Count}
 use Rattle.shard_calls.specs.declared.reply.Reply.{Reply}
 use Rattle.shard_calls.specs.declared.reply.ShardRead.{ShardRead}

@@ -15,19 +15,19 @@ use Rattle.vschema.specs.Database.{rows_of, all_applied}
 use Rattle.vschema.specs.Sources.{source_tables, SourcesThere, JoinsInPlace}
 use Rattle.vschema.specs.TypedWrites.{IsTypedWrite}
 use Rattle.vschema.specs.WellFormed.{is_vschema}
-use Rattle.sql_eval.specs.Queries.{IsAnswer, Allowed}
-use Rattle.sql_eval.specs.Writes.{written_table, changes_over}
+use Rattle.shard_contents.specs.Queries.{IsAnswer, Allowed}
+use Rattle.shard_contents.specs.Writes.{written_table, changes_over}
 use Rattle.journal.specs.Runs.{IsLegal, NumbersBelow}
-use Rattle.shard_law.proofs.Lists.{all-append, all-weaker}
+use Rattle.shard_contents.proofs.Lists.{all-append, all-weaker}
 use Rattle.shard_run.specs.declared.Mode.TheVariants.{Serving}
 use Rattle.shard_run.specs.declared.ShardRecord.{ShardRecord}
 use Rattle.shard_run.specs.Runs.{Run, Opening, database, shard_rows, mode, stored_on}
-use Rattle.shard_law.specs.Legal.{IsOnItsSlot, IsChangeOf}
+use Rattle.shard_contents.specs.Legal.{IsOnItsSlot, IsChangeOf}
 use Rattle.shard_run.specs.Openings.{IsOpening}
 use Rattle.shard_contents.specs.declared.touched_table.Touch.{Touch}
-use Rattle.shard_law.specs.Entries.{MayFollow, commit_of}
+use Rattle.shard_contents.specs.Entries.{MayFollow, commit_of}
 use Rattle.shard_contents.specs.Transactions.{PendingView, nothing_done, is_conflict, is_touched, touched_with, touched_all, IsClear, IsTouchBy, IsPending}
-use Rattle.shard.proofs.Moves.{rows_after_stay, still_touched, now_touched, touch_of, now_touched_all, pending_later, pending_touches_all, pending_writes, pending_nothing}
+use Rattle.shard_calls.proofs.Moves.{rows_after_stay, still_touched, now_touched, touch_of, now_touched_all, pending_later, pending_touches_all, pending_writes, pending_nothing}
 use Rattle.shard_calls.specs.declared.reply.Selected.{Selected}
 use Rattle.shard_calls.specs.declared.reply.Answer.TheVariants.{Rows, Count}
 use Rattle.shard_calls.specs.Answers.{WritesAlone}

@@ -6,10 +6,10 @@ use Rattle.std.specs.Slice.{IsItemAt}
 use Rattle.std.proofs.lemmas.Bool.{false≢true}
 use Rattle.std.proofs.lemmas.List.FromFn.{length-range_with_len, get_or-range_with_len}
 use Rattle.vschema.specs.declared.schema.Table.{Table}
-use Rattle.planner.specs.declared.routes.Route.{Route}
-use Rattle.planner.specs.Routes.{takes}
-use Rattle.shard_law.proofs.Lists.{In, In-all, In-from_filter}
-use Rattle.shard_law.proofs.Rows.{head_is}
+use Rattle.shard_calls.specs.Route.{Route}
+use Rattle.shard_calls.specs.Routes.{takes}
+use Rattle.shard_contents.proofs.Lists.{In, In-all, In-from_filter}
+use Rattle.shard_contents.proofs.Rows.{head_is}
 use Rattle.serving.specs.Partitions.{Seat, IsPartition, AreOf}
 use Rattle.shard_calls.specs.Answers.{needed}
 use Rattle.shard_calls.specs.Pendings.{BoundView}

@@ -12,28 +12,28 @@ use Rattle.vschema.specs.Database.{all_applied}
 use Rattle.vschema.specs.Sources.{source_tables, SourcesThere, JoinsInPlace}
 use Rattle.vschema.specs.TypedWrites.{IsTypedWrite}
 use Rattle.vschema.specs.WellFormed.{is_vschema}
-use Rattle.sql_eval.specs.Writes.{written_table}
-use Rattle.planner.specs.declared.routes.Route.{Route}
-use Rattle.planner.specs.Routes.{table_at, route_of, write_route, takes}
+use Rattle.shard_contents.specs.Writes.{written_table}
+use Rattle.shard_calls.specs.Route.{Route}
+use Rattle.shard_calls.specs.Routes.{table_at, route_of, write_route, takes}
 use Rattle.journal.specs.Runs.{IsLegal, NumbersBelow, by_session}
 use Rattle.journal.specs.Views.{PassView}
 use Rattle.journal.proofs.Fronts.{prefix_self, prefix_trans, legal_prefix}
-use Rattle.shard_law.proofs.Lists.{In, Contains-from_In, In-from_Contains, In-from_filter, In-left, In-last, all-weaker, all-each, all-from_In}
+use Rattle.shard_contents.proofs.Lists.{In, Contains-from_In, In-from_Contains, In-from_filter, In-left, In-last, all-weaker, all-each, all-from_In}
 use Rattle.serving.specs.Partitions.{Seat, IsPartition}
 use Rattle.shard_run.specs.declared.Mode.TheVariants.{Serving}
 use Rattle.shard_run.specs.declared.ShardRecord.{ShardRecord}
 use Rattle.shard_run.specs.declared.Entry.{Entry}
 use Rattle.shard_run.specs.Runs.{Run, Opening, database, mode, stored_on}
-use Rattle.shard_law.specs.Legal.{IsOnItsSlot}
+use Rattle.shard_contents.specs.Legal.{IsOnItsSlot}
 use Rattle.shard_run.specs.Openings.{IsOpening}
-use Rattle.shard_law.specs.declared.limits.Limits.{Limits}
+use Rattle.shard_contents.specs.Limits.{Limits}
 use Rattle.shard_contents.specs.declared.touched_table.Touch.{Touch}
-use Rattle.shard_law.specs.Entries.{MayFollow, HasLooked, commit_of}
+use Rattle.shard_contents.specs.Entries.{MayFollow, HasLooked, commit_of}
 use Rattle.shard_contents.specs.Transactions.{PendingView, nothing_done, touched_with, touched_all, IsClear, IsTouchBy, IsPending, HasReadIn, HasWrittenIn, HasCommittedAll, entry_of}
-use Rattle.shard.proofs.Moves.{all_touched, touch_of, all_touched_all}
+use Rattle.shard_calls.proofs.Moves.{all_touched, touch_of, all_touched_all}
 use Rattle.shard_calls.specs.declared.reply.Selected.{Selected}
 use Rattle.shard_calls.specs.declared.reply.Answer.TheVariants.{Rows, Count}
-use Rattle.shard.specs.Seats.{seat_of}
+use Rattle.shard_calls.specs.Seats.{seat_of}
 use Rattle.shard_calls.specs.Answers.{needed, WritesAlone}
 use Rattle.shard_calls.specs.Transactions as gives
 use Rattle.shard_calls.specs.Transactions.{TransactionStatement, KeptPartition, Transaction, PassAndTx, NeedsBy, GiveOver, AreOver, GivesIn, IsCommitted, IsConflict, ReadsAlone, tables_of, if_any, used, writes_in, with_step, reads_of}
@@ -113,7 +113,7 @@ module _ (o : Opening) (opens : IsOpening o) (formed : is_vschema o.schema ≡ t
       let database : if_any last.on ≡ s ∷ [] = ap if_any on in
       Contains-from_In s (used (t.steps ++ last ∷ []))
       (subst (In s) (sym (flat_map-append (λ (x : TransactionStatement). if_any x.on) t.steps (last ∷ [])))
-      (Rattle.shard_law.proofs.Lists.In-right s (used t.steps) (if_any last.on ++ [])
+      (Rattle.shard_contents.proofs.Lists.In-right s (used t.steps) (if_any last.on ++ [])
       (subst (λ (l : List ShardRecord). In s (l ++ [])) (sym database) (inl refl))))
 
   -- the partition that it keeps then

@@ -5,7 +5,7 @@ use Rattle.std.proofs.lemmas.Bool.{false≢true}
 use Rattle.vt_value.specs.declared.refusal.Refusal.{Refusal}
 use Rattle.vt_value.specs.declared.refusal.Refusal.TheVariants.{OutOfMemory, SyntaxError}
 use Rattle.sql_tree.specs.declared.Statement.{Statement}
-use Rattle.sql_parser.specs.Grammar.{Reads}
+use Rattle.shard_calls.specs.Grammar.{Reads}
 use Rattle.vschema.specs.declared.schema.VSchema.{VSchema}
 use Rattle.vschema.specs.declared.schema.Query.{Query}
 use Rattle.vschema.specs.declared.schema.Typed.{Typed}
@@ -16,8 +16,8 @@ use Rattle.journal.specs.Runs.{IsLegal}
 use Rattle.journal.specs.Views.{PassView}
 use Rattle.shard_run.specs.declared.Entry.{Entry}
 use Rattle.shard_run.specs.Runs.{Opening}
-use Rattle.shard_law.specs.declared.limits.Limits.{Limits}
-use Rattle.shard_law.specs.Entries.{MayFollow}
+use Rattle.shard_contents.specs.Limits.{Limits}
+use Rattle.shard_contents.specs.Entries.{MayFollow}
 use Rattle.shard_contents.specs.Transactions.{PendingView, nothing_done}
 use Rattle.shard_calls.specs.declared.reply.Answer.TheVariants.{Count}
 use Rattle.shard_calls.specs.declared.reply.Reply.{Reply}

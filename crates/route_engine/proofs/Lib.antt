@@ -32,3 +32,8 @@ pub mod Shared
 pub mod OverExample
 pub mod Narrowings
 pub mod Points
+pub use Rattle.shard_calls.proofs.Gathers
+pub use Rattle.shard_calls.proofs.Legality
+pub use Rattle.shard_contents.proofs.Lists
+pub use Rattle.shard_contents.proofs.Runs
+pub use Rattle.shard_calls.proofs.Sent

@@ -7,10 +7,10 @@ use Rattle.operators.specs.Slices.{shown_at}
 use Rattle.vschema.specs.declared.schema.Query.{Query}
 use Rattle.vschema.specs.declared.schema.VSchema.{VSchema}
 use Rattle.vschema.specs.Sources.{source_rows, JoinsInPlace}
-use Rattle.sql_eval.specs.Narrowing.{narrowed, whole_items, whole_ordinals, ShowsAt}
-use Rattle.sql_eval.specs.declared.narrowed.Whole.{Whole}
-use Rattle.sql_eval.proofs.NarrowLemmas.{narrowed_aggregated}
-use Rattle.planner.specs.Routes.{table_at}
+use Rattle.shard_contents.specs.Narrowing.{narrowed, whole_items, whole_ordinals, ShowsAt}
+use Rattle.shard_contents.specs.Whole.{Whole}
+use Rattle.shard_contents.proofs.NarrowLemmas.{narrowed_aggregated}
+use Rattle.shard_calls.specs.Routes.{table_at}
 use Rattle.journal.specs.Views.{PassView}
 use Rattle.shard_run.specs.declared.Entry.{Entry}
 use Rattle.shard_run.specs.Runs.{Opening}

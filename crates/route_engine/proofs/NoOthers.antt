@@ -17,10 +17,10 @@ use Rattle.shard_run.specs.declared.Event.{Event}
 use Rattle.shard_run.specs.declared.Event.TheVariants.{Commit, Follow, Copy, Freeze, Thaw, Retire, Serve}
 use Rattle.shard_run.specs.declared.Entry.{Entry}
 use Rattle.shard_run.specs.Runs.{Run, Opening, opening_rows, database}
-use Rattle.shard_law.proofs.Runs.{commits}
-use Rattle.shard_law.proofs.Lists.{In, In-filter, all-append}
-use Rattle.shard_law.specs.declared.limits.Limits.{Limits}
-use Rattle.shard_law.specs.Entries.{commit_of, HasLooked}
+use Rattle.shard_contents.proofs.Runs.{commits}
+use Rattle.shard_contents.proofs.Lists.{In, In-filter, all-append}
+use Rattle.shard_contents.specs.Limits.{Limits}
+use Rattle.shard_contents.specs.Entries.{commit_of, HasLooked}
 use Rattle.shard_contents.specs.Commits.{HasCommitted}
 use Rattle.shard_calls.specs.Answers.{HasGoneOn, HasGone}
 use Rattle.shard_calls.specs.Alone.{IsNoOthers, NoOthers, NoCommits}

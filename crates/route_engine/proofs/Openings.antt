@@ -17,9 +17,9 @@ use Rattle.keyrange.specs.declared.KeyRange.{KeyRange}
 use Rattle.keyrange.specs.Names.{IsNamed}
 use Rattle.keyrange.specs.Ranges.{Cover}
 use Rattle.serving.specs.Partitions.{IsPartition, AreOf, ranges}
-use Rattle.shard.specs.Seats.{seat_of}
+use Rattle.shard_calls.specs.Seats.{seat_of}
 use Rattle.route_engine.proofs.Everywhere.{ranges_named}
-use Rattle.shard_law.specs.Entries.{opening_shards}
+use Rattle.shard_contents.specs.Entries.{opening_shards}
 
 -- what differs pair by pair is mapped to numbers that do
 mapped_apart : (f : ShardRecord → ℕ) (ss : List ShardRecord) → AllPairs (λ a b. f a ≢ f b) ss → AllPairs (λ (x : ℕ) (y : ℕ). x ≢ y) (map f ss)

@@ -6,7 +6,7 @@ use Rattle.std.proofs.lemmas.List.Sorted.{length_permutation, IsPermutation-refl
 use mathlib.Core.List.{IsPrefix}
 use Rattle.vt_value.specs.declared.refusal.Refusal.{Refusal}
 use Rattle.sql_tree.specs.declared.Statement.{Statement}
-use Rattle.sql_parser.specs.Grammar.{Reads}
+use Rattle.shard_calls.specs.Grammar.{Reads}
 use Rattle.vschema.specs.declared.schema.Query.{Query}
 use Rattle.vschema.specs.declared.schema.Typed.{Typed}
 use Rattle.vschema.specs.declared.schema.Typed.TheVariants as typed
@@ -18,21 +18,21 @@ use Rattle.vschema.specs.Sources.{SourcesThere, JoinsInPlace}
 use Rattle.vschema.specs.TypedStatement.{typed_statement}
 use Rattle.vschema.specs.TypedWrites.{IsTypedWrite}
 use Rattle.vschema.specs.WellFormed.{is_vschema}
-use Rattle.sql_eval.specs.Queries.{Allowed}
-use Rattle.sql_eval.specs.Writes.{changes_of, change}
-use Rattle.planner.specs.Routes.{table_at}
+use Rattle.shard_contents.specs.Queries.{Allowed}
+use Rattle.shard_contents.specs.Writes.{changes_of, change}
+use Rattle.shard_calls.specs.Routes.{table_at}
 use Rattle.journal.specs.Runs.{LegalAfter, IsLegal}
 use Rattle.journal.specs.Views.{PassView}
 use Rattle.journal.proofs.Fronts.{prefix_self, prefix_trans, legal_front}
 use Rattle.shard_run.specs.declared.ShardRecord.{ShardRecord}
 use Rattle.shard_run.specs.declared.Entry.{Entry}
 use Rattle.shard_run.specs.Runs.{Run, Opening, opening_rows, database, commit_changes}
-use Rattle.shard_law.specs.Legal.{Legal, IsChangeOf, AreChangesOf}
+use Rattle.shard_contents.specs.Legal.{Legal, IsChangeOf, AreChangesOf}
 use Rattle.shard_run.specs.Openings.{IsOpening}
-use Rattle.shard_law.proofs.Lists.{all-weaker}
-use Rattle.shard_law.proofs.Runs.{commits, commits-push}
-use Rattle.shard_law.specs.declared.limits.Limits.{Limits}
-use Rattle.shard_law.specs.Entries.{MayFollow, HasLooked}
+use Rattle.shard_contents.proofs.Lists.{all-weaker}
+use Rattle.shard_contents.proofs.Runs.{commits, commits-push}
+use Rattle.shard_contents.specs.Limits.{Limits}
+use Rattle.shard_contents.specs.Entries.{MayFollow, HasLooked}
 use Rattle.shard_contents.specs.Commits.{HasCommitted}
 use Rattle.shard_contents.proofs.Legality.{legal_is}
 use Rattle.shard_calls.specs.declared.reply.Answer.TheVariants.{Rows, Count}
@@ -47,7 +47,7 @@ use Rattle.shard_calls.specs.Alone as over
 use Rattle.shard_calls.specs.Alone.{NoOthers, NoCommits, GivesOver, IsRefusedOver}
 use Rattle.route_engine.specs.inner.Alone.{AnswersOver}
 use Rattle.route_engine.proofs.SeatRows.{mixed_sources}
-use Rattle.sql_eval.proofs.SameAnswers.{same_sources}
+use Rattle.shard_contents.proofs.SameAnswers.{same_sources}
 use Rattle.route_engine.proofs.NoOthers.{one_still, still_self, still_trans, still_between, gone_unchanged, gone_same, looked_unchanged, committed_at, up_to, trailing}
 use Rattle.route_engine.proofs.Sessions.{is_typed}
 use Rattle.route_engine.proofs.Theirs.{query_there, query_joins}

@@ -12,7 +12,7 @@ use Rattle.vschema.specs.declared.changes.Write.TheVariants.{Insert}
 use Rattle.vschema.specs.declared.changes.RowChange.TheVariants.{Added}
 use Rattle.vschema.specs.Database.{Database}
 use Rattle.vschema.proofs.Example.{schema}
-use Rattle.sql_eval.specs.Writes.{changes_of}
+use Rattle.shard_contents.specs.Writes.{changes_of}
 use Rattle.journal.specs.Views.{PassView, new_pass}
 use Rattle.shard_run.specs.declared.Event.TheVariants.{Freeze}
 use Rattle.shard_run.specs.declared.Entry.{Entry}

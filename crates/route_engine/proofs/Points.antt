@@ -11,10 +11,10 @@ use Rattle.journal.specs.Views.{PassView}
 use Rattle.shard_run.specs.declared.Entry.{Entry}
 use Rattle.shard_run.specs.Runs.{Opening}
 use Rattle.shard_run.specs.Openings.{IsOpening}
-use Rattle.planner.specs.Routes.{table_at}
+use Rattle.shard_calls.specs.Routes.{table_at}
 use Rattle.std.proofs.lemmas.List.{get_or_default}
-use Rattle.planner.specs.Plans.{planned, Finishes}
-use Rattle.planner.proofs.Rights.{rights}
+use Rattle.shard_calls.specs.Plans.{planned, Finishes}
+use Rattle.shard_calls.proofs.Rights.{rights}
 use Rattle.shard_calls.specs.declared.reply.ShardRead.{ShardRead}
 use Rattle.shard_calls.specs.declared.reply.Answer.TheVariants.{Rows}
 use Rattle.shard_calls.specs.Answers as a

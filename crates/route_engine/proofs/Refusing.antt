@@ -15,10 +15,10 @@ use Rattle.journal.proofs.Fronts.{prefix_self}
 use Rattle.shard_run.specs.declared.ShardRecord.{ShardRecord}
 use Rattle.shard_run.specs.declared.Entry.{Entry}
 use Rattle.shard_run.specs.Runs.{Opening, database, shard_rows}
-use Rattle.shard_law.specs.Legal.{AreChangesOf}
+use Rattle.shard_contents.specs.Legal.{AreChangesOf}
 use Rattle.shard_run.specs.Openings.{IsOpening}
-use Rattle.shard_law.specs.declared.limits.Limits.{Limits}
-use Rattle.shard_law.specs.Entries.{commit_of}
+use Rattle.shard_contents.specs.Limits.{Limits}
+use Rattle.shard_contents.specs.Entries.{commit_of}
 use Rattle.shard_contents.specs.Transactions as tx
 use Rattle.shard_contents.specs.Transactions.{PendingView, IsClear, IsStopped, IsReadRefusal, IsWriteRefusal, IsCommitAllRefusal}
 use Rattle.shard_calls.specs.Answers.{WritesAlone, HasServed}

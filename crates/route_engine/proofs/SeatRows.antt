@@ -12,22 +12,22 @@ use Rattle.vschema.specs.declared.schema.Table.{Table}
 use Rattle.vschema.specs.Checks.{is_aggregated}
 use Rattle.vschema.specs.Database.{Database, rows_of, restrict}
 use Rattle.vschema.specs.Sources.{with_pairs, pairs_of, source_rows, join_tables, source_tables, SourcesThere, JoinsInPlace}
-use Rattle.sql_eval.specs.Conditions.{is_kept}
-use Rattle.sql_eval.specs.Queries.{Keyed, kept_rows, keyed_row, keyed_groups, IsAnswer}
-use Rattle.sql_eval.proofs.Pairs.{source_permuted}
-use Rattle.sql_eval.proofs.Permutations.{IsPermutation-filter}
-use Rattle.sql_eval.proofs.SameAnswers.{same_answers}
-use Rattle.planner.specs.Plans.{ShardRows}
-use Rattle.planner.specs.Right.{LiesInPlace, AreApart, rows_of_shards}
-use Rattle.planner.specs.Routes.{table_at, route_of, takes}
-use Rattle.planner.proofs.Placed.{sources_home}
-use Rattle.planner.proofs.ShardPairs.{sources_all}
-use Rattle.planner.proofs.Skips.{skipped}
+use Rattle.shard_contents.specs.Conditions.{is_kept}
+use Rattle.shard_contents.specs.Queries.{Keyed, kept_rows, keyed_row, keyed_groups, IsAnswer}
+use Rattle.shard_contents.proofs.Pairs.{source_permuted}
+use Rattle.shard_contents.proofs.Permutations.{IsPermutation-filter}
+use Rattle.shard_contents.proofs.SameAnswers.{same_answers}
+use Rattle.shard_calls.specs.Plans.{ShardRows}
+use Rattle.shard_calls.specs.Right.{LiesInPlace, AreApart, rows_of_shards}
+use Rattle.shard_calls.specs.Routes.{table_at, route_of, takes}
+use Rattle.shard_calls.proofs.Placed.{sources_home}
+use Rattle.shard_calls.proofs.ShardPairs.{sources_all}
+use Rattle.shard_calls.proofs.Skips.{skipped}
 use Rattle.serving.specs.Partitions.{Seat, IsPartition, ranges}
 use Rattle.shard_run.specs.Runs.{Run, Opening, database}
 use Rattle.shard_run.specs.Openings.{IsOpening}
-use Rattle.shard_law.specs.Legal.{Legal}
-use Rattle.shard_law.proofs.Lists.{all-weaker}
+use Rattle.shard_contents.specs.Legal.{Legal}
+use Rattle.shard_contents.proofs.Lists.{all-weaker}
 use Rattle.shard_calls.specs.Answers.{needed}
 use Rattle.shard_calls.specs.Mix.{MixPart, mixed_rows}
 use Rattle.shard_calls.specs.Transactions.{needed_for}
@@ -109,7 +109,7 @@ module _ (o : Opening) (opens : IsOpening o) (run : Run) (legal : Legal o run) (
   abbrev shard_at : Seat → ShardRows
   shard_at seat = (seat.1, rows_at seat)
 
-  abbrev pub route : Rattle.planner.specs.declared.routes.Route.Route
+  abbrev pub route : Rattle.shard_calls.specs.Route.Route
   route = route_of t q.join q.filter
 
   ranges_are : (ss : List Seat) → map (λ part. part.range) (map part_of ss) ≡ ranges ss

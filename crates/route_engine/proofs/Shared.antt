@@ -11,13 +11,13 @@ use Rattle.serving.specs.contracts.published.Serving as serving
 use Rattle.serving.proofs.published.Serving.TheSendSync as sent_serving
 use Rattle.vschema.proofs.schema.VSchema.TheSendSync as schema
 use Rattle.vschema.proofs.schema.Place.TheSendSync as place
-use Rattle.shard.specs.declared.world.World as world
-use Rattle.shard.specs.contracts.locked.Shard as locked
-use Rattle.shard.specs.contracts.locked.Shard.TheInside as locked_inside
-use Rattle.shard.specs.contracts.locked.ShardSeated.TheImpl as seated
-use Rattle.shard.specs.contracts.state.ShardState as state
-use Rattle.shard.proofs.state_lock.StateLock.TheSendSync as lock
-use Rattle.shard.specs.contracts.world.ShardLawLaw.TheImpl as laws
+use Rattle.shard_calls.specs.World as world
+use Rattle.shard_calls.specs.Shard as locked
+use Rattle.shard_calls.specs.Shard.TheInside as locked_inside
+use Rattle.shard_calls.specs.ShardSeated.TheImpl as seated
+use Rattle.shard_calls.specs.ShardState as state
+use Rattle.shard_calls.proofs.StatelockTheSendSync as lock
+use Rattle.shard_calls.specs.ShardLawLaw.TheImpl as laws
 use Rattle.shard_calls.proofs.Sent.{state_send, shard_shared}
 
 module _ (W J : RattleType) (w : world.Ghosts W.Denot) (j : naming.Ghosts J.Denot) where

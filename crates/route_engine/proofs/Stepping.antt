@@ -17,26 +17,26 @@ use Rattle.vschema.specs.Database.{all_applied}
 use Rattle.vschema.specs.Sources.{SourcesThere, JoinsInPlace}
 use Rattle.vschema.specs.TypedWrites.{IsTypedWrite}
 use Rattle.vschema.specs.WellFormed.{is_vschema}
-use Rattle.sql_eval.specs.Writes.{written_table}
-use Rattle.planner.specs.Routes.{table_at, route_of, write_route}
+use Rattle.shard_contents.specs.Writes.{written_table}
+use Rattle.shard_calls.specs.Routes.{table_at, route_of, write_route}
 use Rattle.journal.specs.Runs.{IsLegal, NumbersBelow, number_of, by_session}
 use Rattle.journal.specs.Views.{PassView}
 use Rattle.journal.proofs.Fronts.{prefix_self, prefix_trans}
 use Rattle.serving.specs.Partitions.{Seat, IsPartition}
-use Rattle.shard_law.proofs.Lists.{In, In-left, In-from_Contains, Contains-from_In, all-append, all-weaker}
+use Rattle.shard_contents.proofs.Lists.{In, In-left, In-from_Contains, Contains-from_In, all-append, all-weaker}
 use Rattle.shard_run.specs.declared.ShardRecord.{ShardRecord}
 use Rattle.shard_run.specs.declared.Entry.{Entry}
 use Rattle.shard_run.specs.Runs.{Run, Opening, database}
-use Rattle.shard_law.specs.Legal.{IsOnItsSlot}
+use Rattle.shard_contents.specs.Legal.{IsOnItsSlot}
 use Rattle.shard_run.specs.Openings.{IsOpening}
-use Rattle.shard_law.specs.declared.limits.Limits.{Limits}
-use Rattle.shard_law.specs.Entries.{MayFollow, HasLooked, commit_of}
+use Rattle.shard_contents.specs.Limits.{Limits}
+use Rattle.shard_contents.specs.Entries.{MayFollow, HasLooked, commit_of}
 use Rattle.shard_contents.specs.Transactions.{PendingView, IsPendingOf}
-use Rattle.shard.proofs.Moves.{pending_nothing, pending_same}
+use Rattle.shard_calls.proofs.Moves.{pending_nothing, pending_same}
 use Rattle.shard_calls.specs.declared.reply.Answer.{Answer}
 use Rattle.shard_calls.specs.declared.reply.Answer.TheVariants.{Rows, Count}
 use Rattle.shard_calls.specs.declared.reply.ShardRead.{ShardRead}
-use Rattle.shard.specs.Seats.{seat_of}
+use Rattle.shard_calls.specs.Seats.{seat_of}
 use Rattle.shard_calls.specs.Answers.{HasGone, WritesAlone}
 use Rattle.shard_calls.specs.Alone as over
 use Rattle.shard_calls.specs.Transactions as t

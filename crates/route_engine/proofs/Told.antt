@@ -9,26 +9,26 @@ use Rattle.vschema.specs.Database.{Database, SameRows, restrict, all_applied}
 use Rattle.vschema.specs.Sources.{source_rows, SourcesThere, JoinsInPlace}
 use Rattle.vschema.specs.TypedWrites.{IsTypedWrite}
 use Rattle.vschema.specs.WellFormed.{is_vschema}
-use Rattle.sql_eval.specs.Queries.{Allowed}
-use Rattle.sql_eval.proofs.SameAnswers.{same_allowed}
-use Rattle.planner.specs.Routes.{table_at}
+use Rattle.shard_contents.specs.Queries.{Allowed}
+use Rattle.shard_contents.proofs.SameAnswers.{same_allowed}
+use Rattle.shard_calls.specs.Routes.{table_at}
 use Rattle.journal.specs.Runs.{IsLegal, NumbersBelow}
 use Rattle.shard_run.specs.declared.Mode.TheVariants.{Serving}
 use Rattle.shard_run.specs.declared.ShardRecord.{ShardRecord}
 use Rattle.shard_run.specs.declared.Entry.{Entry}
 use Rattle.shard_run.specs.Runs.{Run, Opening, database, shard_rows, mode, answers_queries}
-use Rattle.shard_law.specs.Legal.{IsOnItsSlot, IsChangeOf}
+use Rattle.shard_contents.specs.Legal.{IsOnItsSlot, IsChangeOf}
 use Rattle.shard_run.specs.Openings.{IsOpening}
 use Rattle.shard_contents.specs.declared.touched_table.Touch.{Touch}
-use Rattle.shard_law.specs.Entries.{MayFollow, commit_of}
+use Rattle.shard_contents.specs.Entries.{MayFollow, commit_of}
 use Rattle.shard_contents.specs.Commits.{IsPlaced}
 use Rattle.shard_contents.specs.Transactions.{entry_of}
 use Rattle.shard_contents.proofs.Commits.{applied-append}
-use Rattle.shard.proofs.Inside.{change_same}
+use Rattle.shard_calls.proofs.Inside.{change_same}
 use Rattle.shard_contents.proofs.Legality.{legal_is, part_held}
-use Rattle.shard.proofs.Pendings.{may_nothing, may_next, legal_then, stands_then, held_then, one_then, serves_then}
+use Rattle.shard_calls.proofs.Pendings.{may_nothing, may_next, legal_then, stands_then, held_then, one_then, serves_then}
 use Rattle.shard_calls.specs.declared.reply.Answer.TheVariants.{Rows, Count}
-use Rattle.shard.specs.Seats.{seat_of}
+use Rattle.shard_calls.specs.Seats.{seat_of}
 use Rattle.shard_calls.specs.Answers.{WritesAlone}
 use Rattle.shard_calls.specs.Alone as over
 use Rattle.shard_calls.specs.Alone.{GivesOver}

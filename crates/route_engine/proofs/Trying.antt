@@ -15,9 +15,9 @@ use Rattle.vschema.specs.Schema.{row_id}
 use Rattle.vschema.specs.Storable.{is_storable}
 use Rattle.vschema.specs.Database.{lies_in}
 use Rattle.vschema.specs.TypedWrites.{IsTypedWrite}
-use Rattle.sql_eval.specs.Writes.{written_table}
-use Rattle.planner.specs.declared.routes.Route.{Route}
-use Rattle.planner.specs.Routes.{table_at, write_route, insert_route, takes}
+use Rattle.shard_contents.specs.Writes.{written_table}
+use Rattle.shard_calls.specs.Route.{Route}
+use Rattle.shard_calls.specs.Routes.{table_at, write_route, insert_route, takes}
 use Rattle.journal.specs.Runs.{IsLegal, NumbersBelow, number_of}
 use Rattle.journal.specs.Views.{PassView}
 use Rattle.journal.proofs.Fronts.{prefix_self, prefix_trans}
@@ -26,18 +26,18 @@ use Rattle.shard_run.specs.declared.Mode.{Mode}
 use Rattle.shard_run.specs.declared.Mode.TheVariants.{Following, Serving, Frozen, Retired, Dropped}
 use Rattle.shard_run.specs.declared.Entry.{Entry}
 use Rattle.shard_run.specs.Runs.{Opening, mode, answers_queries}
-use Rattle.shard_law.specs.Legal.{IsOnItsSlot}
-use Rattle.shard_law.proofs.Lists.{In, In-from_filter, In-filter, In-from_map, Contains-from_In}
+use Rattle.shard_contents.specs.Legal.{IsOnItsSlot}
+use Rattle.shard_contents.proofs.Lists.{In, In-from_filter, In-filter, In-from_map, Contains-from_In}
 use Rattle.serving.specs.Partitions.{Seat, IsPartition, ranges}
-use Rattle.shard_law.specs.declared.limits.Limits.{Limits}
-use Rattle.shard_law.specs.Entries.{MayFollow, HasLooked, commit_of}
+use Rattle.shard_contents.specs.Limits.{Limits}
+use Rattle.shard_contents.specs.Entries.{MayFollow, HasLooked, commit_of}
 use Rattle.shard_contents.specs.Commits.{IsPlaced}
 use Rattle.shard_calls.specs.declared.reply.Tried.{Tried}
 use Rattle.shard_calls.specs.declared.reply.Tried.TheVariants.{Done, Again}
 use Rattle.shard_calls.specs.Answers as a
 use Rattle.shard_calls.specs.Answers.{needed, needed_by, HasGone, HasWritten, IsHeldUp, MayWriteRefuse, is_writable}
 use Rattle.shard_calls.specs.inner.Scatter.{IsTried, written, again}
-use Rattle.shard_law.proofs.Fitting.{fits-from_typed}
+use Rattle.shard_contents.proofs.Fitting.{fits-from_typed}
 use Rattle.route_engine.proofs.Everywhere.{everywhere}
 use Rattle.shard_calls.proofs.Finding.{all_since}
 use Rattle.route_engine.proofs.Placing.{some_in, row_taken, only_one}

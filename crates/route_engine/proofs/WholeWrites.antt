@@ -22,21 +22,21 @@ use Rattle.vschema.specs.Storable.{is_storable}
 use Rattle.vschema.specs.TypedWrites.{IsTypedWrite}
 use Rattle.vschema.specs.WellFormed.{is_vschema, is_table, is_vindex_right, is_in_keyspace, is_sharded_at}
 use Rattle.vschema.specs.Database.{rows_of, lies_in, restrict, same_row}
-use Rattle.sql_eval.specs.Conditions.{is_kept}
-use Rattle.sql_eval.specs.Writes.{written_table, has_duplicate, row_updates, changes_over, changes_of}
-use Rattle.planner.specs.Routes.{table_at, takes, keys_of, route_of, insert_route}
-use Rattle.planner.proofs.Placed.{IsHome, rows_home}
-use Rattle.planner.proofs.Skips.{skipped}
+use Rattle.shard_contents.specs.Conditions.{is_kept}
+use Rattle.shard_contents.specs.Writes.{written_table, has_duplicate, row_updates, changes_over, changes_of}
+use Rattle.shard_calls.specs.Routes.{table_at, takes, keys_of, route_of, insert_route}
+use Rattle.shard_calls.proofs.Placed.{IsHome, rows_home}
+use Rattle.shard_calls.proofs.Skips.{skipped}
 use Rattle.shard_run.specs.declared.ShardRecord.{ShardRecord}
 use Rattle.shard_run.specs.Runs.{Run, Opening, database}
-use Rattle.shard_law.specs.Legal.{Legal}
+use Rattle.shard_contents.specs.Legal.{Legal}
 use Rattle.shard_run.specs.Openings.{IsOpening}
-use Rattle.shard_law.proofs.Fitting.{fits-from_typed}
-use Rattle.shard_law.proofs.Lists.{In, In-all, In-filter, In-map, all-from_In, all-from_list_all, filter-filter_weaker, filter-none}
-use Rattle.shard_law.proofs.Rows.{row_is}
-use Rattle.shard_law.proofs.Typed.{table_there}
+use Rattle.shard_contents.proofs.Fitting.{fits-from_typed}
+use Rattle.shard_contents.proofs.Lists.{In, In-all, In-filter, In-map, all-from_In, all-from_list_all, filter-filter_weaker, filter-none}
+use Rattle.shard_contents.proofs.Rows.{row_is}
+use Rattle.shard_contents.proofs.Typed.{table_there}
 use Rattle.serving.specs.Partitions.{Seat, IsPartition}
-use Rattle.shard.specs.Seats.{seat_of}
+use Rattle.shard_calls.specs.Seats.{seat_of}
 use Rattle.shard_calls.specs.Answers.{needed, needed_by, WritesAlone}
 use Rattle.route_engine.proofs.Everywhere.{rows_restricted}
 use Rattle.route_engine.proofs.Moments.{placed_at}
@@ -68,8 +68,8 @@ any_some p q (x ∷ xs) h = by (p x) refl (q x) refl (any_some p q xs h.1)
 
 updates_none : (n : ℕ) (assignments : List (Assignment ℕ)) (c : Option (Condition ℕ)) (row : Row) → is_kept c row ≡ false → row_updates n assignments c row ≡ []
 updates_none n assignments c row e =
-    ap (λ b. cond b (cond (same_row row (Rattle.sql_eval.specs.Writes.assigned assignments row)) []
-    (Rattle.vschema.specs.declared.changes.RowChange.TheVariants.Replaced n row (Rattle.sql_eval.specs.Writes.assigned assignments row) ∷ [])) []) e
+    ap (λ b. cond b (cond (same_row row (Rattle.shard_contents.specs.Writes.assigned assignments row)) []
+    (Rattle.vschema.specs.declared.changes.RowChange.TheVariants.Replaced n row (Rattle.shard_contents.specs.Writes.assigned assignments row) ∷ [])) []) e
 
 unkept : (kept lies : Bool) → (kept ≡ true → lies ≡ true) → lies ≡ false → kept ≡ false
 unkept true lies h e = absurd (false≢true (sym e ∙ h refl))
@@ -79,8 +79,8 @@ unkept false lies h e = refl
 
 same_at : {X A : Type 0} (f g : X → A) (xs : List X) → map f xs ≡ map g xs → (x : X) → In x xs → f x ≡ g x
 same_at f g [] e x h = absurd h
-same_at f g (y ∷ ys) e x (inl i) = ap f (sym i) ∙ Rattle.shard_law.proofs.Rows.head_is e ∙ ap g i
-same_at f g (y ∷ ys) e x (inr h) = same_at f g ys (Rattle.shard_law.proofs.Rows.tail_is e) x h
+same_at f g (y ∷ ys) e x (inl i) = ap f (sym i) ∙ Rattle.shard_contents.proofs.Rows.head_is e ∙ ap g i
+same_at f g (y ∷ ys) e x (inr h) = same_at f g ys (Rattle.shard_contents.proofs.Rows.tail_is e) x h
 
 number_in : (ns : List ℕ) (n : ℕ) → has_number ns n ≡ true → In n ns
 number_in [] n e = absurd (false≢true e)
@@ -96,7 +96,7 @@ one_id t sharded a b right same = by t.vindex refl right
     by : (v : Option ColumnVindex) → t.vindex ≡ v → is_vindex_right t sharded v ≡ true → row_id (record t { vindex = v }) a ≡ row_id (record t { vindex = v }) b
     by None e r = refl
     by (Some v) e r =
-        ap (Rattle.vindex.specs.KeyspaceIds.keyspace_id v.vindex)
+        ap (Rattle.shard_contents.specs.KeyspaceIds.keyspace_id v.vindex)
         (same_at (value_at a) (value_at b) t.primary_key (row_is (key_of t a) (key_of t b) same) v.column
         (number_in t.primary_key v.column (and_parts (sharded && Rattle.vschema.specs.WellFormed.fits_vindex v (slice_get t.columns v.column) && Rattle.vschema.specs.WellFormed.is_needed t v.column)
         (has_number t.primary_key v.column) r).1))
@@ -158,7 +158,7 @@ module _ (o : Opening) (opens : IsOpening o) (formed : is_vschema o.schema ≡ t
         lies = lies;
       }
     where
-      taken : (shard : Rattle.planner.specs.Plans.ShardRows) → IsHome t (keys_of t None) shard row → (b : Bool) → takes t (route_of t None c) shard.0 ≡ b → takes t (route_of t None c) shard.0 ≡ true
+      taken : (shard : Rattle.shard_calls.specs.Plans.ShardRows) → IsHome t (keys_of t None) shard row → (b : Bool) → takes t (route_of t None c) shard.0 ≡ b → takes t (route_of t None c) shard.0 ≡ true
       taken shard home true e = e
       taken shard home false e = absurd (false≢true (sym (skipped t None shard c row home e) ∙ kept))
 
@@ -183,7 +183,7 @@ module _ (o : Opening) (opens : IsOpening o) (formed : is_vschema o.schema ≡ t
       → flat_map (row_updates n assignments c) (filter p rows) ≡ flat_map (row_updates n assignments c) rows
   updates_over assignments c p keeps =
       flat_some p (row_updates n assignments c) rows
-      (Rattle.shard_law.proofs.Lists.all-weaker (λ row. is_kept c row ≡ true → p row ≡ true) (λ row. p row ≡ false → row_updates n assignments c row ≡ [])
+      (Rattle.shard_contents.proofs.Lists.all-weaker (λ row. is_kept c row ≡ true → p row ≡ true) (λ row. p row ≡ false → row_updates n assignments c row ≡ [])
       (λ row h off. updates_none n assignments c row (unkept (is_kept c row) (p row) h off)) rows keeps)
 
   pub kept_over : (c : Option (Condition ℕ)) (p : Row → Bool) → Keeps c p → filter (is_kept c) (filter p rows) ≡ filter (is_kept c) rows
@@ -203,7 +203,7 @@ module _ (o : Opening) (opens : IsOpening o) (formed : is_vschema o.schema ≡ t
       let rest : has_duplicate t (x ∷ filter (lies_in place t) xs) new ≡ has_duplicate t (x ∷ xs) new = rw first at (duplicates place (x ∷ xs) new h.1) in
       ap (λ b. b || has_duplicate t (x ∷ filter (lies_in place t) xs) new)
       (any_some (lies_in place t) (λ row. same_row (key_of t x) (key_of t row)) xs
-      (Rattle.shard_law.proofs.Lists.all-each (λ row. same_row (key_of t x) (key_of t row) ≡ true → lies_in place t row ≡ true)
+      (Rattle.shard_contents.proofs.Lists.all-each (λ row. same_row (key_of t x) (key_of t row) ≡ true → lies_in place t row ≡ true)
       (λ row same. ap (λ (id : List ℕ). (t.keyspace == place.keyspace) && has_id place.range id) (sym (one_id t (vindex_right o.schema formed n there).sharded x row (vindex_right o.schema formed n there).right same)) ∙ first) xs))
       ∙ ap (λ b. list_any (λ row. same_row (key_of t x) (key_of t row)) xs || b) rest
 

@@ -5,7 +5,7 @@ ghost use Rattle.serving.specs.Partitions.{AreOf};
 use buffer::Buffer;
 use journal::Naming;
 use serving::{Partition, Serving};
-use shard::{Shard, World};
+use shard_calls::{Shard, World};
 use std::sync::Wait;
 use vt_value::Refusal;
 

@@ -2,9 +2,9 @@
 ghost use Rattle.std.specs.Prelude.{◌≡◌, ◌<◌, ◌∷◌, [], IfOk, IfErr, IfSome, IfNone, ◌⊎◌, map, length};
 ghost use Rattle.vschema.specs.Sources.{JoinsInPlace};
 ghost use Rattle.journal.specs.Runs.{IsLegal};
-ghost use Rattle.planner.specs.Plans.{planned};
+ghost use Rattle.shard_calls.specs.Plans.{planned};
 ghost use Rattle.serving.specs.Partitions.{AreOf};
-ghost use Rattle.shard_law.specs.Entries.{MayFollow};
+ghost use Rattle.shard_contents.specs.Entries.{MayFollow};
 ghost use Rattle.shard_run.specs.Runs.{answers_queries};
 ghost use Rattle.shard_calls.specs.Answers.{needed, HasGone, HasRead, IsHeldUp, MayReadRefuse};
 ghost use Rattle.shard_calls.specs.inner.Scatter.{IsScattered, IsFinished, CanJoinAll, AllInOrder};
@@ -14,14 +14,13 @@ use crate::engine::Engine;
 use crate::shown::{shown_by, shown_in, shown_whole};
 use journal::Naming;
 use operators::{Operator, Rows};
-use planner::{Plan, Route, is_answer, is_plain, plan, point_route};
 use serving::{Partition, Seated, ShardReference};
-use shard::{Shard, ShardPass, World};
 use shard_calls::{
-    Answer, Gate, Gathered, GatheredAlone, Reply, Selected, ShardRead, gather, jobs, only_needed,
-    piece_for, read_all, read_alone,
+    Answer, Gate, Gathered, GatheredAlone, Plan, Reply, Route, Selected, Shard, ShardPass,
+    ShardRead, World, gather, is_answer, is_plain, jobs, only_needed, piece_for, plan, point_route,
+    read_all, read_alone,
 };
-use sql_eval::narrow;
+use shard_contents::narrow;
 use sql_tree::Item;
 use std::alloc::{AllocError, Global};
 use std::sync::Wait;

@@ -1,5 +1,5 @@
 //! Which shards a statement needs.
-use planner::Route;
+use shard_calls::Route;
 use vschema::Table;
 
 /// The table of a statement, and the route by which it needs shards of the table's keyspace.

@@ -1,11 +1,11 @@
 //! What a query shows, and its rows as they are shown.
 ghost use Rattle.std.specs.Prelude.{◌≡◌};
 ghost use Rattle.operators.specs.Slices.{shown_at};
-ghost use Rattle.sql_eval.specs.Narrowing.{whole_items, whole_ordinals};
+ghost use Rattle.shard_contents.specs.Narrowing.{whole_items, whole_ordinals};
 
 use operators::ShownRows;
-use planner::Plan;
-use sql_eval::Whole;
+use shard_calls::Plan;
+use shard_contents::Whole;
 use sql_tree::Item;
 use std::alloc::Global;
 use std::mem::replace;

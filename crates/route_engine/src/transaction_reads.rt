@@ -3,7 +3,7 @@ ghost use Rattle.std.specs.Prelude.{◌≡◌, ◌⊎◌, ◌<◌, ◌≤◌, So
 ghost use Rattle.sql_tree.specs.declared.Statement.{Statement};
 ghost use Rattle.vschema.specs.Sources.{SourcesThere, JoinsInPlace};
 ghost use Rattle.vschema.specs.TypedStatement.{typed_statement};
-ghost use Rattle.planner.specs.Routes.{table_at, route_of};
+ghost use Rattle.shard_calls.specs.Routes.{table_at, route_of};
 ghost use Rattle.serving.specs.Partitions.{IsPartition, AreOf};
 ghost use Rattle.shard_calls.specs.Answers.{needed};
 ghost use Rattle.shard_calls.specs.Pendings.{IsOf};
@@ -14,14 +14,12 @@ use crate::engine::Engine;
 use crate::routed::Routed;
 use journal::Naming;
 use operators::ShownRows;
-use planner::route_of;
 use serving::Partition;
-use shard::{Shard, ShardPass, World, written_table};
 use shard_calls::{
-    Answer, Bound, Gate, OpenTx, Reply, Selected, ShardRead, counted, look_at_each, only_needed,
-    read_at, read_first, read_nothing,
+    Answer, Bound, Gate, OpenTx, Reply, Selected, Shard, ShardPass, ShardRead, World, counted,
+    look_at_each, only_needed, read_at, read_first, read_nothing, route_of, written_table,
 };
-use sql_eval::Narrowed;
+use shard_contents::Narrowed;
 use std::alloc::Global;
 use std::sync::Wait;
 use vschema::{Query, Table, Typed, VSchema};

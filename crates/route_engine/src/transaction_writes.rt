@@ -1,8 +1,8 @@
 //! The writes of an open transaction, and its commit.
 ghost use Rattle.std.specs.Prelude.{◌≡◌, ◌<◌, [], Some, None, IfOk, IfErr, OnErr, true, length};
 ghost use Rattle.vschema.specs.TypedWrites.{IsTypedWrite};
-ghost use Rattle.sql_eval.specs.Writes.{written_table};
-ghost use Rattle.planner.specs.Routes.{table_at, write_route};
+ghost use Rattle.shard_contents.specs.Writes.{written_table};
+ghost use Rattle.shard_calls.specs.Routes.{table_at, write_route};
 ghost use Rattle.shard_calls.specs.Pendings.{IsOf};
 ghost use Rattle.shard_calls.specs.inner.InTransactions.{GoesOnIn, IsRefusedStep};
 ghost use Rattle.route_engine.specs.inner.Pendings.{IsReady};
@@ -10,10 +10,9 @@ ghost use Rattle.route_engine.specs.inner.Pendings.{IsReady};
 use crate::engine::Engine;
 use crate::routed::Routed;
 use journal::Naming;
-use planner::write_route;
-use shard::{ShardPass, World, written_table};
 use shard_calls::{
-    Answer, Gate, OpenTx, Reply, commit_at, counted, look_at_each, write_at, write_first,
+    Answer, Gate, OpenTx, Reply, ShardPass, World, commit_at, counted, look_at_each, write_at,
+    write_first, write_route, written_table,
 };
 use std::alloc::Global;
 use std::sync::Wait;

@@ -2,20 +2,21 @@
 ghost use Rattle.std.specs.Prelude.{◌≡◌, [], ℕ, ◌<◌, Some, IsSome, IfOk, IfErr, length};
 ghost use Rattle.serving.specs.Partitions.{AreOf};
 ghost use Rattle.vschema.specs.TypedWrites.{IsTypedWrite};
-ghost use Rattle.sql_eval.specs.Writes.{written_table};
-ghost use Rattle.planner.specs.Routes.{table_at, write_route};
+ghost use Rattle.shard_contents.specs.Writes.{written_table};
+ghost use Rattle.shard_calls.specs.Routes.{table_at, write_route};
 ghost use Rattle.journal.specs.Runs.{IsLegal, NumbersBelow};
-ghost use Rattle.shard_law.specs.Entries.{MayFollow, commit_of};
+ghost use Rattle.shard_contents.specs.Entries.{MayFollow, commit_of};
 ghost use Rattle.shard_calls.specs.Answers.{HasWritten, MayWriteRefuse};
 ghost use Rattle.shard_calls.specs.inner.Scatter.{tried, IsTried};
 
 use crate::engine::Engine;
 use crate::routed::Routed;
 use journal::Naming;
-use planner::write_route;
 use serving::Partition;
-use shard::{CommitOutcome, Shard, ShardPass, World, written_table};
-use shard_calls::{Answer, Gate, Reply, Tried, counted, look_at_each, only_needed, shard_of};
+use shard_calls::{
+    Answer, CommitOutcome, Gate, Reply, Shard, ShardPass, Tried, World, counted, look_at_each,
+    only_needed, shard_of, write_route, written_table,
+};
 use std::alloc::Global;
 use std::sync::Wait;
 use vschema::Write;

@@ -22,12 +22,24 @@ const MOST: usize = 1 << 62;
 // whichever chunks they lie in. A snapshot has the entries of its moment, whatever is changed later. An entry that was made ready is
 // changed without memory
 /// A sorted map whose entries snapshots share. Contracts see a `MapView`.
-#[derive(Drop)]
 pub struct ChunkMap<K: Ord, V> {
     // the chunks, unless others share them
     own: Chunks<K, V>,
     shared: Option<Arc<Chunks<K, V>>>,
     count: usize,
+}
+
+impl<K: Ord + Drop, V: Drop> Drop for ChunkMap<K, V> {
+    // Who drops one calls this, and need not know what it owns.
+    fn drop(self) {
+        let ChunkMap {
+            own,
+            shared,
+            count: _,
+        } = self;
+        drop(own);
+        drop(shared);
+    }
 }
 
 impl<K: Ord, V> Model for ChunkMap<K, V> {

@@ -17,33 +17,33 @@ use Rattle.journal.proofs.Fronts.{prefix_self, prefix_trans}
 use Rattle.shard_run.specs.Runs.{Run, Opening, database}
 use Rattle.shard_run.specs.Openings.{IsOpening}
 use Rattle.shard_run.specs.declared.Entry.{Entry}
-use Rattle.shard_law.specs.declared.limits.Limits.{Limits}
-use Rattle.shard_law.specs.Entries.{MayFollow}
-use Rattle.shard_calls.specs.Alone.{NoOthers}
-use Rattle.shard_calls.specs.Transactions.{Transaction}
-use Rattle.shard_calls.specs.Pendings.{OpenView}
+use Rattle.route_engine.specs.Limits.{Limits}
+use Rattle.route_engine.specs.Entries.{MayFollow}
+use Rattle.route_engine.specs.Alone.{NoOthers}
+use Rattle.route_engine.specs.Transactions.{Transaction}
+use Rattle.route_engine.specs.Pendings.{OpenView}
 use Rattle.route_engine.proofs.NoOthers.{up_to, trailing}
-use Rattle.conversation.specs.declared.end.End.{End}
-use Rattle.conversation.specs.declared.access.Handshake.{Handshake}
-use Rattle.conversation.specs.Sessions.{AnswersFed}
-use Rattle.conversation.specs.Sessions as sessions
-use Rattle.conversation.specs.declared.connection_state.Phase.{Phase}
-use Rattle.conversation.specs.declared.connection_state.Phase.TheVariants.{Commands}
-use Rattle.conversation.specs.declared.connection_state.ConnectionState.{ConnectionState}
-use Rattle.conversation.specs.declared.connection_state.ConnectionState.TheVariants.{At, Ended}
-use Rattle.conversation.specs.Packets.{reply_number}
-use Rattle.conversation.specs.Logins.{LogsIn}
-use Rattle.conversation.specs.Means.{PassAndTransaction, IsKept, Means, none_open, context_of}
-use Rattle.conversation.specs.Means as means
+use Rattle.session.specs.declared.conversation.end.End.{End}
+use Rattle.session.specs.declared.conversation.access.Handshake.{Handshake}
+use Rattle.session.specs.conversation.Sessions.{AnswersFed}
+use Rattle.session.specs.conversation.Sessions as sessions
+use Rattle.session.specs.declared.conversation.connection_state.Phase.{Phase}
+use Rattle.session.specs.declared.conversation.connection_state.Phase.TheVariants.{Commands}
+use Rattle.session.specs.declared.conversation.connection_state.ConnectionState.{ConnectionState}
+use Rattle.session.specs.declared.conversation.connection_state.ConnectionState.TheVariants.{At, Ended}
+use Rattle.session.specs.conversation.Packets.{reply_number}
+use Rattle.session.specs.conversation.Logins.{LogsIn}
+use Rattle.session.specs.conversation.Means.{PassAndTransaction, IsKept, Means, none_open, context_of}
+use Rattle.session.specs.conversation.Means as means
 use Rattle.session.specs.Alone.{Alone, OneState, AnsweredStatement, MeansOver, MeansAlone, IsOverAt, alone_context, without_transaction}
 use Rattle.session.specs.Alone as over
 use Rattle.client_statements.specs.declared.statement.ClientStatement.{ClientStatement}
-use Rattle.conversation.specs.declared.connection_state.Settings.{Settings}
-use Rattle.conversation.specs.SessionContext.{status_flags}
-use Rattle.conversation.specs.GivesText.{NeedsOne, RunsText, AnswersClient, GivesText}
-use Rattle.conversation.specs.GivesText as given
-use Rattle.conversation.specs.Talk.{AnswersPayload, Replies, Conversation, Talk, set_end_of}
-use Rattle.conversation.specs.Talk as t
+use Rattle.session.specs.declared.conversation.connection_state.Settings.{Settings}
+use Rattle.session.specs.conversation.SessionContext.{status_flags}
+use Rattle.session.specs.conversation.GivesText.{NeedsOne, RunsText, AnswersClient, GivesText}
+use Rattle.session.specs.conversation.GivesText as given
+use Rattle.session.specs.conversation.Talk.{AnswersPayload, Replies, Conversation, Talk, set_end_of}
+use Rattle.session.specs.conversation.Talk as t
 use Rattle.session.proofs.Servings.{SoFar}
 use Rattle.session.proofs.Steps.{Follows, stays, answer_on, refusal_at_on}
 use Rattle.session.proofs.OneDatabase.{Goes, answer_over, refused_over}

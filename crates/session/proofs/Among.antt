@@ -19,21 +19,21 @@ use Rattle.shard_run.specs.declared.ShardRecord.{ShardRecord}
 use Rattle.shard_run.specs.declared.Entry.{Entry}
 use Rattle.shard_run.specs.Runs.{Run, Opening, database}
 use Rattle.shard_run.specs.Openings.{IsOpening}
-use Rattle.shard_law.proofs.Lists.{In, In-all, In-last, In-push, all-from_In}
-use Rattle.shard_law.specs.declared.limits.Limits.{Limits}
-use Rattle.shard_contents.specs.declared.touched_table.Touch.{Touch}
-use Rattle.shard_law.specs.Entries.{MayFollow}
-use Rattle.shard_calls.specs.declared.reply.Answer.{Answer}
-use Rattle.shard_calls.specs.declared.reply.Reply.{Reply}
+use Rattle.route_engine.proofs.Lists.{In, In-all, In-last, In-push, all-from_In}
+use Rattle.route_engine.specs.Limits.{Limits}
+use Rattle.route_engine.specs.Touch.{Touch}
+use Rattle.route_engine.specs.Entries.{MayFollow}
+use Rattle.route_engine.specs.Answer.{Answer}
+use Rattle.route_engine.specs.Reply.{Reply}
 use Rattle.route_engine.specs.inner.Answers as a
-use Rattle.shard_calls.specs.Answers.{counted}
+use Rattle.route_engine.specs.Answers.{counted}
 use Rattle.route_engine.specs.inner.Answers.{IsRefused}
-use Rattle.shard_calls.specs.Alone as over
-use Rattle.shard_calls.specs.Alone.{NoOthers, NoCommits, GivesOver, IsRefusedOver}
-use Rattle.shard_calls.specs.Transactions as x
-use Rattle.shard_calls.specs.Transactions.{TransactionStatement, KeptPartition, Transaction, PassAndTx, GiveOver, AreOver, used, if_any, writes_in, write_on, with_step, IsCommitted, GivesIn, GivesAt, IsReplyTo, IsRefusedIn, IsRefusedBy, IsRefusedNow, IsRefusedAt}
-use Rattle.shard_calls.specs.Pendings as stands
-use Rattle.shard_calls.specs.Pendings.{OpenView, Represents, IsAnywhere, GaveOnShard}
+use Rattle.route_engine.specs.Alone as over
+use Rattle.route_engine.specs.Alone.{NoOthers, NoCommits, GivesOver, IsRefusedOver}
+use Rattle.route_engine.specs.Transactions as x
+use Rattle.route_engine.specs.Transactions.{TransactionStatement, KeptPartition, Transaction, PassAndTx, GiveOver, AreOver, used, if_any, writes_in, write_on, with_step, IsCommitted, GivesIn, GivesAt, IsReplyTo, IsRefusedIn, IsRefusedBy, IsRefusedNow, IsRefusedAt}
+use Rattle.route_engine.specs.Pendings as stands
+use Rattle.route_engine.specs.Pendings.{OpenView, Represents, IsAnywhere, GaveOnShard}
 use Rattle.route_engine.proofs.NoOthers.{one_still, still_self, unchanged, gone_same, looked_unchanged}
 use Rattle.route_engine.proofs.Over.{reply_over, refusal_over}
 use Rattle.session.specs.Alone.{AnsweredStatement, InTurn, LeavesAll, told_of}
@@ -56,13 +56,13 @@ anywhere_told o s run touched _ _ _ (stands.anywhere {steps} {writes} {changes} 
     by (inr e) rest = subst (IsAnywhere o) e is
 anywhere_told o s run touched _ _ _ (stands.read {steps} {writes} {changes} q selected seen told alone there place all table join items qualified allowed) step h none = by (In-push step _ steps h) (λ there. anywhere_told o s run touched steps writes changes told step there none)
   where
-    by : In step steps ⊎ (record { typed = typed.Select q; answer = Rattle.shard_calls.specs.declared.reply.Answer.TheVariants.Rows selected; on = Some s; seen = seen } ≡ step)
+    by : In step steps ⊎ (record { typed = typed.Select q; answer = Rattle.route_engine.specs.Answer.TheVariants.Rows selected; on = Some s; seen = seen } ≡ step)
         → (In step steps → IsAnywhere o step) → IsAnywhere o step
     by (inl there) rest = rest there
     by (inr e) rest = let on : Some s ≡ step.on = ap (λ (y : TransactionStatement). y.on) e in absurd (cc (on, none))
 anywhere_told o s run touched _ _ _ (stands.wrote {steps} {writes} {changes} w more seen told alone is typed_is change) step h none = by (In-push step _ steps h) (λ there. anywhere_told o s run touched steps writes changes told step there none)
   where
-    by : In step steps ⊎ (record { typed = typed.Write w; answer = Rattle.shard_calls.specs.declared.reply.Answer.TheVariants.Count (Rattle.std.specs.Prelude.length more); on = Some s; seen = seen } ≡ step)
+    by : In step steps ⊎ (record { typed = typed.Write w; answer = Rattle.route_engine.specs.Answer.TheVariants.Count (Rattle.std.specs.Prelude.length more); on = Some s; seen = seen } ≡ step)
         → (In step steps → IsAnywhere o step) → IsAnywhere o step
     by (inl there) rest = rest there
     by (inr e) rest = let on : Some s ≡ step.on = ap (λ (y : TransactionStatement). y.on) e in absurd (cc (on, none))
@@ -83,7 +83,7 @@ module _ (o : Opening) (opens : IsOpening o) (formed : is_vschema o.schema ≡ t
           → later ≡ database o run
       nowhere _ _ _ e any (over.selects table join items qualified rows) = refl
       nowhere _ _ _ e any (over.writes {w} changes of) =
-          nothing_written o opens formed run legal w (typed_is w e) (subst (Rattle.shard_calls.specs.Transactions.NeedsNone o) e any.none) changes of
+          nothing_written o opens formed run legal w (typed_is w e) (subst (Rattle.route_engine.specs.Transactions.NeedsNone o) e any.none) changes of
       nowhere _ _ _ e any over.sets_names = refl
 
       by : (on : Option ShardRecord) → step.on ≡ on → write_on step.on step.typed ≡ [] → after ≡ database o run
@@ -141,9 +141,9 @@ module _ (o : Opening) (opens : IsOpening o) (formed : is_vschema o.schema ≡ t
         subst (λ (db : Database). InTurn o.schema db (map told_of steps) after) (one_still o p.seen now.seen still) (in_turn o.schema (database o now.seen) steps after give)
 
     commits_at : (now : PassView Entry) (after : Database) → InTurn o.schema (database o p.seen) (map told_of tx.steps) after → database o now.seen ≡ after
-        → Among p (Some tx) typed.Commit (Rattle.shard_calls.specs.declared.reply.Answer.TheVariants.Count 0) (record { pass = now; tx = None })
+        → Among p (Some tx) typed.Commit (Rattle.route_engine.specs.Answer.TheVariants.Count 0) (record { pass = now; tx = None })
     commits_at now after done is =
-        subst (λ (db : Database). GivesAmong o (database o p.seen) (Some (map told_of tx.steps)) typed.Commit (Rattle.shard_calls.specs.declared.reply.Answer.TheVariants.Count 0) db None)
+        subst (λ (db : Database). GivesAmong o (database o p.seen) (Some (map told_of tx.steps)) typed.Commit (Rattle.route_engine.specs.Answer.TheVariants.Count 0) db None)
         (sym is) (m.alone (next.commits done))
 
     gives_in : (t : Typed) (reply : Reply) (now : PassAndTx) (q' : PassView Entry) (w : Option OpenView) → IsLegal (MayFollow o) p.seen → NoOthers p now.pass
@@ -193,7 +193,7 @@ module _ (o : Opening) (opens : IsOpening o) (formed : is_vschema o.schema ≡ t
 
   -- that it is done
   abbrev done : Reply
-  done = record { answer = Rattle.shard_calls.specs.declared.reply.Answer.TheVariants.Count 0; reads = [] }
+  done = record { answer = Rattle.route_engine.specs.Answer.TheVariants.Count 0; reads = [] }
 
   gives_at : (p : PassView Entry) (tx : Option Transaction) (t : Typed) (reply : Reply) (now : PassAndTx) (tree : Statement) (q q' : PassView Entry) (v w : Option OpenView)
       → Reads text tree → typed_statement o.schema tree ≡ Ok t → IsLegal (MayFollow o) p.seen → NoOthers p now.pass → Represents o q v tx → Represents o q' w now.tx

@@ -2,13 +2,13 @@
 use Rattle.std.proofs.Common.{◌≡◌, List, ℕ, Some}
 use Rattle.mysql_packet.specs.declared.framer.Fed.{Fed}
 use Rattle.resultset.specs.declared.Outcome.{Outcome}
-use Rattle.conversation.specs.declared.end.End.{End}
-use Rattle.conversation.specs.declared.connection_state.ConnectionState.{ConnectionState}
-use Rattle.conversation.specs.declared.connection_state.ConnectionState.TheVariants.{New, At, Ended}
-use Rattle.conversation.specs.ConnectionStates.{end_of, HasGreeted}
-use Rattle.conversation.specs.Talk.{SessionContext}
-use Rattle.conversation.specs.Sessions.{AnswersFed}
-use Rattle.conversation.specs.Sessions as s
+use Rattle.session.specs.declared.conversation.end.End.{End}
+use Rattle.session.specs.declared.conversation.connection_state.ConnectionState.{ConnectionState}
+use Rattle.session.specs.declared.conversation.connection_state.ConnectionState.TheVariants.{New, At, Ended}
+use Rattle.session.specs.conversation.ConnectionStates.{end_of, HasGreeted}
+use Rattle.session.specs.conversation.Talk.{SessionContext}
+use Rattle.session.specs.conversation.Sessions.{AnswersFed}
+use Rattle.session.specs.conversation.Sessions as s
 
 pub fed_begun : {S : Type 0} (context : SessionContext S) (May : S → List ℕ → Outcome → S → Type 0) (begin : ConnectionState) (first now : S) (fed : Fed) (out : List ℕ) (b : ConnectionState)
     → AnswersFed context May begin first fed out b now → HasGreeted b

@@ -10,16 +10,16 @@ use Rattle.resultset.specs.declared.Outcome.{Outcome}
 use Rattle.resultset.specs.declared.Outcome.TheVariants.{Count}
 use Rattle.resultset.specs.declared.SetEnd.TheVariants.{EofPackets}
 use Rattle.resultset.specs.Encoding.{encoded}
-use Rattle.shard_calls.specs.Transactions.{Transaction}
-use Rattle.conversation.specs.declared.end.End.TheVariants.{Quit, Closed, Broken}
-use Rattle.conversation.specs.ConnectionStates.{settings_at_first}
-use Rattle.conversation.specs.declared.connection_state.Settings.{Settings}
-use Rattle.conversation.specs.declared.connection_state.Phase.TheVariants.{Commands}
-use Rattle.conversation.specs.declared.connection_state.ConnectionState.TheVariants.{At}
+use Rattle.route_engine.specs.Transactions.{Transaction}
+use Rattle.session.specs.declared.conversation.end.End.TheVariants.{Quit, Closed, Broken}
+use Rattle.session.specs.conversation.ConnectionStates.{settings_at_first}
+use Rattle.session.specs.declared.conversation.connection_state.Settings.{Settings}
+use Rattle.session.specs.declared.conversation.connection_state.Phase.TheVariants.{Commands}
+use Rattle.session.specs.declared.conversation.connection_state.ConnectionState.TheVariants.{At}
 use Rattle.vschema.specs.declared.schema.VSchema.{VSchema}
-use Rattle.conversation.specs.SessionContext.{SessionContext, status_flags}
-use Rattle.conversation.specs.Talk.{Talk}
-use Rattle.conversation.specs.Talk as t
+use Rattle.session.specs.conversation.SessionContext.{SessionContext, status_flags}
+use Rattle.session.specs.conversation.Talk.{Talk}
+use Rattle.session.specs.conversation.Talk as t
 
 abbrev Never : Unit {0} → List ℕ → Outcome → Unit {0} → Type 0
 Never s text outcome now = ⊥

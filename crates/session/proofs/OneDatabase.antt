@@ -24,21 +24,21 @@ use Rattle.shard_run.specs.declared.ShardRecord.{ShardRecord}
 use Rattle.shard_run.specs.declared.Event.TheVariants.{Commit}
 use Rattle.shard_run.specs.declared.Entry.{Entry}
 use Rattle.shard_run.specs.Runs.{Run, Opening, database}
-use Rattle.shard_law.specs.Legal.{IsChangeOf}
+use Rattle.route_engine.specs.Legal.{IsChangeOf}
 use Rattle.shard_run.specs.Openings.{IsOpening}
-use Rattle.shard_law.proofs.Lists.{In, In-from_Contains, all-append, all-weaker}
-use Rattle.shard_law.specs.declared.limits.Limits.{Limits}
-use Rattle.shard_law.specs.Entries.{MayFollow, commit_of}
-use Rattle.shard_contents.proofs.Legality.{legal_is}
-use Rattle.shard_calls.specs.declared.reply.Answer.{Answer}
-use Rattle.shard_calls.specs.declared.reply.Reply.{Reply}
+use Rattle.route_engine.proofs.Lists.{In, In-from_Contains, all-append, all-weaker}
+use Rattle.route_engine.specs.Limits.{Limits}
+use Rattle.route_engine.specs.Entries.{MayFollow, commit_of}
+use Rattle.route_engine.proofs.Legality.{legal_is}
+use Rattle.route_engine.specs.Answer.{Answer}
+use Rattle.route_engine.specs.Reply.{Reply}
 use Rattle.route_engine.specs.inner.Answers as a
-use Rattle.shard_calls.specs.Answers.{counted}
+use Rattle.route_engine.specs.Answers.{counted}
 use Rattle.route_engine.specs.inner.Answers.{IsReply, IsRefused}
-use Rattle.shard_calls.specs.Alone as over
-use Rattle.shard_calls.specs.Alone.{NoOthers, NoCommits, GivesOver, UsesTables, IsRefusedOver}
-use Rattle.shard_calls.specs.Transactions as x
-use Rattle.shard_calls.specs.Transactions.{TransactionStatement, KeptPartition, statement_keyspace, Transaction, PassAndTx, GiveOver, AreOver, NeedsNone, used, if_any, writes_in, write_on, with_step, IsCommitted, GivesIn, GivesAt, IsReplyTo, IsConflict, IsRefusedIn, IsRefusedBy, IsRefusedNow, IsRefusedAt}
+use Rattle.route_engine.specs.Alone as over
+use Rattle.route_engine.specs.Alone.{NoOthers, NoCommits, GivesOver, UsesTables, IsRefusedOver}
+use Rattle.route_engine.specs.Transactions as x
+use Rattle.route_engine.specs.Transactions.{TransactionStatement, KeptPartition, statement_keyspace, Transaction, PassAndTx, GiveOver, AreOver, NeedsNone, used, if_any, writes_in, write_on, with_step, IsCommitted, GivesIn, GivesAt, IsReplyTo, IsConflict, IsRefusedIn, IsRefusedBy, IsRefusedNow, IsRefusedAt}
 use Rattle.route_engine.proofs.NoOthers.{one_still, still_self, still_trans, unchanged, gone_same, looked_unchanged, all_front, all_back}
 use Rattle.route_engine.proofs.Over.{reply_over, refusal_over}
 use Rattle.route_engine.proofs.Sessions.{is_typed}
@@ -241,7 +241,7 @@ module _ (o : Opening) (opens : IsOpening o) (formed : is_vschema o.schema ≡ t
 
     -- it has committed nothing
     commits_nothing : NoCommits p.seen now.seen → writes_in t.steps ≡ []
-        → Next typed.Commit (Rattle.shard_calls.specs.declared.reply.Answer.TheVariants.Count 0) None
+        → Next typed.Commit (Rattle.route_engine.specs.Answer.TheVariants.Count 0) None
     commits_nothing still none = record {
       state = record { db = database o p.seen; open_one = None };
       holds = alone.commits (unwritten o p.seen t told h none);
@@ -249,7 +249,7 @@ module _ (o : Opening) (opens : IsOpening o) (formed : is_vschema o.schema ≡ t
       tx = tt;
     }
 
-    commits_writes : (s : ShardRecord) → IsCommitted o l s p t.steps now → Next typed.Commit (Rattle.shard_calls.specs.declared.reply.Answer.TheVariants.Count 0) None
+    commits_writes : (s : ShardRecord) → IsCommitted o l s p t.steps now → Next typed.Commit (Rattle.route_engine.specs.Answer.TheVariants.Count 0) None
     commits_writes s c =
         let before : database o c.before ≡ database o p.seen =
         one_still o p.seen c.before (unchanged p now others c.before (prefix_trans p.seen c.looked.seen c.before c.look.later c.later) (committed_later o l s p t.steps now c)
@@ -262,7 +262,7 @@ module _ (o : Opening) (opens : IsOpening o) (formed : is_vschema o.schema ≡ t
           tx = tt;
         }
 
-    rolls_back : NoCommits p.seen now.seen → Next typed.Rollback (Rattle.shard_calls.specs.declared.reply.Answer.TheVariants.Count 0) None
+    rolls_back : NoCommits p.seen now.seen → Next typed.Rollback (Rattle.route_engine.specs.Answer.TheVariants.Count 0) None
     rolls_back still =
         record { state = record { db = database o p.seen; open_one = None }; holds = alone.rolls_back; rows = same_rows o p.seen now.seen still; tx = tt }
 
@@ -284,7 +284,7 @@ module _ (o : Opening) (opens : IsOpening o) (formed : is_vschema o.schema ≡ t
 
   -- that it is done
   abbrev done : Reply
-  done = record { answer = Rattle.shard_calls.specs.declared.reply.Answer.TheVariants.Count 0; reads = [] }
+  done = record { answer = Rattle.route_engine.specs.Answer.TheVariants.Count 0; reads = [] }
 
   abbrev Told_next : PassView Entry → Option (List AnsweredStatement) → Reply → PassAndTx → Type 0
   Told_next p told reply now = Goes o p now (λ y. AnswersNext o.schema (record { db = database o p.seen; open_one = told }) text reply.answer y)

@@ -5,7 +5,7 @@ use Rattle.mysql_packet.specs.Frames.{full, packet, frame, stream_of, IsPartial,
 use Rattle.mysql_packet.specs.Framing.{Framing, HasFramed}
 use Rattle.mysql_packet.proofs.FrameLemmas.{frame-short}
 use Rattle.mysql_packet.proofs.StreamLemmas.{splits_on}
-use Rattle.conversation.specs.inner.Sessions.{FedBy, command_payload, one_command}
+use Rattle.session.specs.conversation.inner.Sessions.{FedBy, command_payload, one_command}
 
 module _ (f : Framing) (piece bytes : List ℕ) (empty : f.rest ≡ []) (is : piece ≡ packet 0 bytes) (short : length bytes < full) (within : length bytes ≤ f.limit) where
   whole : f.rest ++ piece ≡ stream_of (command_payload 0 bytes ∷ []) ++ f.rest

@@ -4,21 +4,21 @@ use Rattle.std.specs.Prelude.{IfOk, Result, Ok, Err}
 use Rattle.std.specs.Io.KnownBytes.{Appends, Consumes, Keeps}
 use Rattle.std.proofs.KnownBytes.{Appends-trans, Consumes-trans, Consumes-kept}
 use Rattle.resultset.specs.declared.Outcome.{Outcome}
-use Rattle.conversation.specs.declared.end.End.{End}
-use Rattle.conversation.specs.declared.end.SessionFault.{SessionFault}
-use Rattle.conversation.specs.declared.connection_state.ConnectionState.{ConnectionState}
-use Rattle.conversation.specs.declared.connection_state.ConnectionState.TheVariants as connection_state
+use Rattle.session.specs.declared.conversation.end.End.{End}
+use Rattle.session.specs.declared.conversation.end.SessionFault.{SessionFault}
+use Rattle.session.specs.declared.conversation.connection_state.ConnectionState.{ConnectionState}
+use Rattle.session.specs.declared.conversation.connection_state.ConnectionState.TheVariants as connection_state
 use Rattle.journal.specs.Views.{PassView}
 use Rattle.shard_run.specs.declared.Entry.{Entry}
 use Rattle.shard_run.specs.Runs.{Opening}
-use Rattle.shard_calls.specs.Pendings as stands
-use Rattle.shard_calls.specs.Pendings.{OpenView, Represents}
-use Rattle.conversation.specs.Means.{PassAndTransaction, IsKept, none_open}
-use Rattle.conversation.specs.Faults.{HasBrokenOff, IsUnfinished}
-use Rattle.conversation.specs.ConnectionStates.{end_of}
-use Rattle.conversation.specs.Talk.{SessionContext, Talk}
-use Rattle.conversation.specs.Talk as t
-use Rattle.conversation.specs.Sessions.{SessionState, HasTalked, HasTalkedOn}
+use Rattle.route_engine.specs.Pendings as stands
+use Rattle.route_engine.specs.Pendings.{OpenView, Represents}
+use Rattle.session.specs.conversation.Means.{PassAndTransaction, IsKept, none_open}
+use Rattle.session.specs.conversation.Faults.{HasBrokenOff, IsUnfinished}
+use Rattle.session.specs.conversation.ConnectionStates.{end_of}
+use Rattle.session.specs.conversation.Talk.{SessionContext, Talk}
+use Rattle.session.specs.conversation.Talk as t
+use Rattle.session.specs.conversation.Sessions.{SessionState, HasTalked, HasTalkedOn}
 
 abbrev Known : Type 0
 Known = Option (List ℕ)

@@ -12,14 +12,14 @@ use Rattle.journal.proofs.Fronts.{prefix_self, prefix_trans}
 use Rattle.shard_run.specs.declared.Entry.{Entry}
 use Rattle.shard_run.specs.declared.ShardRecord.{ShardRecord}
 use Rattle.shard_run.specs.Runs.{Opening}
-use Rattle.shard_law.specs.declared.limits.Limits.{Limits}
-use Rattle.shard_law.specs.Entries.{MayFollow, HasLooked}
-use Rattle.shard_calls.specs.declared.reply.Reply.{Reply}
+use Rattle.route_engine.specs.Limits.{Limits}
+use Rattle.route_engine.specs.Entries.{MayFollow, HasLooked}
+use Rattle.route_engine.specs.Reply.{Reply}
 use Rattle.route_engine.specs.inner.Answers as a
-use Rattle.shard_calls.specs.Answers.{counted, HasGone}
+use Rattle.route_engine.specs.Answers.{counted, HasGone}
 use Rattle.route_engine.specs.inner.Answers.{IsReply, IsRefused}
-use Rattle.shard_calls.specs.Transactions as x
-use Rattle.shard_calls.specs.Transactions.{TransactionStatement, Transaction, PassAndTx, IsCommitted, GivesIn, GivesAt, IsReplyTo, IsRefusedIn, IsRefusedBy, IsRefusedNow, IsRefusedAt}
+use Rattle.route_engine.specs.Transactions as x
+use Rattle.route_engine.specs.Transactions.{TransactionStatement, Transaction, PassAndTx, IsCommitted, GivesIn, GivesAt, IsReplyTo, IsRefusedIn, IsRefusedBy, IsRefusedNow, IsRefusedAt}
 use Rattle.route_engine.proofs.Over.{reply_on, refusal_on}
 use Rattle.route_engine.proofs.Sessions.{same_session}
 

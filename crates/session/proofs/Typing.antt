@@ -9,12 +9,12 @@ use Rattle.journal.specs.Views.{PassView}
 use Rattle.shard_run.specs.declared.Entry.{Entry}
 use Rattle.shard_run.specs.Runs.{Run, Opening}
 use Rattle.shard_run.specs.declared.ShardRecord.{ShardRecord}
-use Rattle.shard_law.proofs.Lists.{all-append}
-use Rattle.shard_law.specs.declared.limits.Limits.{Limits}
-use Rattle.shard_calls.specs.declared.reply.Answer.{Answer}
-use Rattle.shard_calls.specs.declared.reply.Reply.{Reply}
-use Rattle.shard_calls.specs.Transactions as x
-use Rattle.shard_calls.specs.Transactions.{Transaction, PassAndTx, with_step, GivesIn, GivesAt, IsReplyTo, IsRefusedIn, IsRefusedBy, IsRefusedNow, IsRefusedAt}
+use Rattle.route_engine.proofs.Lists.{all-append}
+use Rattle.route_engine.specs.Limits.{Limits}
+use Rattle.route_engine.specs.Answer.{Answer}
+use Rattle.route_engine.specs.Reply.{Reply}
+use Rattle.route_engine.specs.Transactions as x
+use Rattle.route_engine.specs.Transactions.{Transaction, PassAndTx, with_step, GivesIn, GivesAt, IsReplyTo, IsRefusedIn, IsRefusedBy, IsRefusedNow, IsRefusedAt}
 use Rattle.route_engine.proofs.Sessions.{is_typed}
 use Rattle.session.specs.inner.TypedSteps.{IsTypedStep, AreTyped}
 

@@ -15,14 +15,14 @@ use Rattle.vschema.specs.TypedStatement.{typed_statement}
 use Rattle.journal.specs.Views.{PassView}
 use Rattle.shard_run.specs.declared.Entry.{Entry}
 use Rattle.shard_run.specs.Runs.{Run, Opening, database}
-use Rattle.shard_law.specs.declared.limits.Limits.{Limits}
-use Rattle.shard_calls.specs.declared.reply.Answer.{Answer}
-use Rattle.shard_calls.specs.declared.reply.Answer.TheVariants.{Count}
-use Rattle.shard_calls.specs.Alone.{NoCommits, GivesOver, GiveInTurn, IsRefusedOver}
-use Rattle.shard_calls.specs.Transactions.{TransactionStatement, Transaction, GiveOver, write_on}
-use Rattle.conversation.specs.declared.access.Handshake.{Handshake}
-use Rattle.conversation.specs.SessionContext.{SessionContext}
-use Rattle.conversation.specs.Means.{PassAndTransaction, none_open, Shows, HasRows, Means}
+use Rattle.route_engine.specs.Limits.{Limits}
+use Rattle.route_engine.specs.Answer.{Answer}
+use Rattle.route_engine.specs.Answer.TheVariants.{Count}
+use Rattle.route_engine.specs.Alone.{NoCommits, GivesOver, GiveInTurn, IsRefusedOver}
+use Rattle.route_engine.specs.Transactions.{TransactionStatement, Transaction, GiveOver, write_on}
+use Rattle.session.specs.declared.conversation.access.Handshake.{Handshake}
+use Rattle.session.specs.conversation.SessionContext.{SessionContext}
+use Rattle.session.specs.conversation.Means.{PassAndTransaction, none_open, Shows, HasRows, Means}
 
 -- ---- one database
 

@@ -7,10 +7,10 @@ use Rattle.vschema.specs.Database.{Database}
 use Rattle.vschema.specs.TypedStatement.{typed_statement}
 use Rattle.journal.specs.Runs.{IsLegal}
 use Rattle.shard_run.specs.Runs.{Run, Opening, database}
-use Rattle.shard_law.specs.Entries.{MayFollow}
-use Rattle.shard_calls.specs.declared.reply.Answer.{Answer}
-use Rattle.shard_calls.specs.Alone.{GivesOver}
-use Rattle.shard_calls.specs.Transactions.{Transaction}
+use Rattle.route_engine.specs.Entries.{MayFollow}
+use Rattle.route_engine.specs.Answer.{Answer}
+use Rattle.route_engine.specs.Alone.{GivesOver}
+use Rattle.route_engine.specs.Transactions.{Transaction}
 use Rattle.session.specs.Alone.{AnsweredStatement, GivesNext, told_of}
 
 -- the answered statements of a transaction, if one is open

@@ -4,16 +4,16 @@ use Rattle.std.specs.Io.KnownBytes.{Appends, Consumes}
 use Rattle.journal.specs.Views.{PassView}
 use Rattle.shard_run.specs.declared.Entry.{Entry}
 use Rattle.shard_run.specs.Runs.{Opening}
-use Rattle.shard_law.specs.declared.limits.Limits.{Limits}
-use Rattle.shard_calls.specs.Alone.{NoOthers}
-use Rattle.conversation.specs.declared.access.Handshake.{Handshake}
-use Rattle.conversation.specs.declared.connection_state.ConnectionState.TheVariants.{New}
-use Rattle.conversation.specs.declared.end.End.{End}
-use Rattle.conversation.specs.declared.end.SessionFault.{SessionFault}
-use Rattle.conversation.specs.declared.end.SessionFault.TheVariants as fault
-use Rattle.conversation.specs.Faults.{IsUnfinished, HasBrokenOff}
-use Rattle.conversation.specs.Means.{PassAndTransaction, Means, none_open, context_of}
-use Rattle.conversation.specs.Talk.{Talk}
+use Rattle.route_engine.specs.Limits.{Limits}
+use Rattle.route_engine.specs.Alone.{NoOthers}
+use Rattle.session.specs.declared.conversation.access.Handshake.{Handshake}
+use Rattle.session.specs.declared.conversation.connection_state.ConnectionState.TheVariants.{New}
+use Rattle.session.specs.declared.conversation.end.End.{End}
+use Rattle.session.specs.declared.conversation.end.SessionFault.{SessionFault}
+use Rattle.session.specs.declared.conversation.end.SessionFault.TheVariants as fault
+use Rattle.session.specs.conversation.Faults.{IsUnfinished, HasBrokenOff}
+use Rattle.session.specs.conversation.Means.{PassAndTransaction, Means, none_open, context_of}
+use Rattle.session.specs.conversation.Talk.{Talk}
 use Rattle.session.specs.declared.session_core.TheConstants.{COMMAND_LIMIT}
 use Rattle.session.specs.Alone.{Alone, MeansAlone, alone_context, alone_first}
 

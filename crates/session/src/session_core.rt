@@ -6,25 +6,24 @@ ghost use Rattle.mysql_packet.specs.Frames.{packet};
 ghost use Rattle.vschema.specs.WellFormed.{is_vschema};
 ghost use Rattle.journal.specs.Runs.{IsLegal};
 ghost use Rattle.shard_run.specs.Openings.{IsOpening};
-ghost use Rattle.shard_law.specs.Entries.{MayFollow};
-ghost use Rattle.conversation.specs.Devices.{write_failures_after};
-ghost use Rattle.conversation.specs.Faults.{IsCutOff};
-ghost use Rattle.shard_calls.specs.Pendings.{IsOf};
-ghost use Rattle.conversation.specs.Means.{Means, context_of};
-ghost use Rattle.conversation.specs.inner.Means.{LeadsKept};
-ghost use Rattle.conversation.specs.ConnectionStates.{end_of};
-ghost use Rattle.conversation.specs.Sessions.{AnswersFed};
-ghost use Rattle.conversation.specs.inner.Sessions.{FedBy, one_command};
+ghost use Rattle.route_engine.specs.Entries.{MayFollow};
+ghost use Rattle.session.specs.conversation.Devices.{write_failures_after};
+ghost use Rattle.session.specs.conversation.Faults.{IsCutOff};
+ghost use Rattle.route_engine.specs.Pendings.{IsOf};
+ghost use Rattle.session.specs.conversation.Means.{Means, context_of};
+ghost use Rattle.session.specs.conversation.inner.Means.{LeadsKept};
+ghost use Rattle.session.specs.conversation.ConnectionStates.{end_of};
+ghost use Rattle.session.specs.conversation.Sessions.{AnswersFed};
+ghost use Rattle.session.specs.conversation.inner.Sessions.{FedBy, one_command};
 
-use bytes::BytesMut;
-use conversation::{
+use crate::conversation::{
     Access, ConnectionState, End, Handshake, Phase, REPLY_ROOM, ReplyState, Responder,
     SessionFault, Settings, Sink, end_of, is_in_commands,
 };
+use bytes::BytesMut;
 use journal::Naming;
 use mysql_packet::Framer;
-use route_engine::{Engine, Gate, Tx};
-use shard::{ShardPass, World};
+use route_engine::{Engine, Gate, ShardPass, Tx, World};
 use std::alloc::{AllocError, Global};
 use std::marker::Model;
 use std::sync::Wait;
@@ -190,17 +189,25 @@ impl<W: World + Send + Sync, J: Naming + Send + Sync> CoreState<W, J> {
 
 /// A session, without the devices that its bytes come from and go to. Its open transaction is dropped with it, and leaves no entry. Contracts
 /// see what it knows of its input, its state, and what it keeps of its transaction.
-#[derive(Drop)]
 pub struct Core<W: World, J: Naming> {
     state: CoreState<W, J>,
     handshake: Handshake,
 }
 
+impl<W: World, J: Naming> Drop for Core<W, J> {
+    // Who drops one calls this, and need not know what it owns.
+    fn drop(self) {
+        let Core { state, handshake } = self;
+        drop(state);
+        drop(handshake);
+    }
+}
+
 impl<W: World, J: Naming> Model for Core<W, J> {
     ghost use Rattle.std.specs.Prelude.{◌≡◌, ◌+◌, ◌≤◌, length};
-    ghost use Rattle.conversation.specs.declared.reply.TheConstants.{REPLY_ROOM};
+    ghost use Rattle.session.specs.declared.conversation.reply.TheConstants.{REPLY_ROOM};
     ghost use Rattle.session.specs.declared.session_core.TheConstants.{COMMAND_LIMIT};
-    ghost use Rattle.conversation.specs.Sessions.{SessionState};
+    ghost use Rattle.session.specs.conversation.Sessions.{SessionState};
     ghost use Rattle.std.specs.Coded.{codes};
     ghost use Rattle.vschema.specs.contracts.changes.Write as write;
 
@@ -229,11 +236,11 @@ fn end_between(is_between_payloads: bool, is_let_in: bool) -> End
 impl<W: World, J: Naming> Core<W, J> {
     ghost use Rattle.std.specs.Prelude.{◌≡◌, ℕ, List, [], None, IfOk, IfErr, IfSome};
     ghost use Rattle.shard_run.specs.Runs.{Opening};
-    ghost use Rattle.shard_law.specs.declared.limits.Limits.{Limits};
-    ghost use Rattle.conversation.specs.Means.{Means, PassAndTransaction, context_of};
-    ghost use Rattle.conversation.specs.ConnectionStates.{HasGreeted, end_of, settings_at_first};
-    ghost use Rattle.conversation.specs.Talk.{Talk};
-    ghost use Rattle.conversation.specs.Sessions.{HasTalked};
+    ghost use Rattle.route_engine.specs.Limits.{Limits};
+    ghost use Rattle.session.specs.conversation.Means.{Means, PassAndTransaction, context_of};
+    ghost use Rattle.session.specs.conversation.ConnectionStates.{HasGreeted, end_of, settings_at_first};
+    ghost use Rattle.session.specs.conversation.Talk.{Talk};
+    ghost use Rattle.session.specs.conversation.Sessions.{HasTalked};
 
     /// A session that is new: of the connection with this id. It greets its client by the salt, and lets in whom `access` names.
     /// Makes room for the greeting and for a refusal, and refuses only if it can't.
@@ -345,15 +352,15 @@ impl<W: World, J: Naming> Core<W, J> {
 impl<W: World + Send + Sync, J: Naming + Send + Sync> Core<W, J> {
     ghost use Rattle.std.specs.Prelude.{◌≡◌, ℕ, List, ◌++◌, None, Some, Ok, Err, IsSome, IfOk, IfErr, IfSome, OnErr, ◌⊎◌};
     ghost use Rattle.std.specs.Io.KnownBytes.{Appends};
-    ghost use Rattle.shard_calls.specs.Alone.{NoOthers};
-    ghost use Rattle.shard_calls.specs.Pendings.{IsOf};
+    ghost use Rattle.route_engine.specs.Alone.{NoOthers};
+    ghost use Rattle.route_engine.specs.Pendings.{IsOf};
     ghost use Rattle.session.specs.Alone.{Alone, MeansAlone, alone_context};
-    ghost use Rattle.conversation.specs.Devices.{write_failures_after};
-    ghost use Rattle.conversation.specs.Faults.{HasBrokenOff};
-    ghost use Rattle.conversation.specs.Means.{IsKept, Means, PassAndTransaction, context_of};
-    ghost use Rattle.conversation.specs.ConnectionStates.{HasGreeted, end_of};
-    ghost use Rattle.conversation.specs.Talk.{IsByCommand};
-    ghost use Rattle.conversation.specs.Sessions.{HasTalked, HasTalkedOn, IsStateAfter};
+    ghost use Rattle.session.specs.conversation.Devices.{write_failures_after};
+    ghost use Rattle.session.specs.conversation.Faults.{HasBrokenOff};
+    ghost use Rattle.session.specs.conversation.Means.{IsKept, Means, PassAndTransaction, context_of};
+    ghost use Rattle.session.specs.conversation.ConnectionStates.{HasGreeted, end_of};
+    ghost use Rattle.session.specs.conversation.Talk.{IsByCommand};
+    ghost use Rattle.session.specs.conversation.Sessions.{HasTalked, HasTalkedOn, IsStateAfter};
 
     // Promise: However a client's bytes are cut, exactly the conversation over them is written, from the greeting on: a client is let in by
     // its user and its answer to the salt, and then by its database, or refused for the cause; each statement has an outcome that its text may have,

@@ -5,8 +5,8 @@ use Rattle.vschema.specs.declared.schema.Query.{Query}
 use Rattle.vschema.specs.declared.changes.RowChange.{RowChange}
 use Rattle.vschema.specs.Database.{Database, SameRows, all_applied}
 use Rattle.vschema.specs.Sources.{source_tables}
-use Rattle.sql_eval.specs.Queries.{Allowed}
-use Rattle.sql_eval.proofs.SameAnswers.{same_allowed}
+use Rattle.shard_contents.specs.Queries.{Allowed}
+use Rattle.shard_contents.proofs.SameAnswers.{same_allowed}
 use Rattle.shard_run.specs.declared.ShardRecord.{ShardRecord}
 use Rattle.shard_run.specs.declared.Entry.{Entry}
 use Rattle.shard_run.specs.Runs.{Opening, shard_rows}

@@ -5,7 +5,7 @@ use mathlib.Core.List.{IsPrefix}
 use Rattle.vt_value.specs.declared.refusal.Refusal.{Refusal}
 use Rattle.vschema.specs.Database.{changed_table}
 use Rattle.vschema.specs.TypedWrites.{IsTypedWrite}
-use Rattle.sql_eval.specs.Writes.{written_table}
+use Rattle.shard_contents.specs.Writes.{written_table}
 use Rattle.journal.specs.Runs.{IsLegal, NumbersBelow}
 use Rattle.journal.specs.Views.{SeatView, PassView}
 use Rattle.journal.proofs.Fronts.{prefix_trans}
@@ -13,11 +13,11 @@ use Rattle.shard_run.specs.declared.ShardRecord.{ShardRecord}
 use Rattle.shard_run.specs.declared.Entry.{Entry}
 use Rattle.shard_run.specs.Runs.{Run, Opening, shard_rows, entries_on, stored_on}
 use Rattle.shard_run.specs.Openings.{row_count}
-use Rattle.shard_law.proofs.Lists.{all-weaker}
-use Rattle.shard_law.proofs.Typed.{table_there}
-use Rattle.shard_law.specs.declared.limits.Limits.{Limits}
+use Rattle.shard_contents.proofs.Lists.{all-weaker}
+use Rattle.shard_contents.proofs.Typed.{table_there}
+use Rattle.shard_contents.specs.Limits.{Limits}
 use Rattle.shard_contents.specs.declared.contents.Contents.{Contents}
-use Rattle.shard_law.specs.Entries.{MayFollow, commit_of}
+use Rattle.shard_contents.specs.Entries.{MayFollow, commit_of}
 use Rattle.shard_contents.specs.Shards.{IsAfter}
 use Rattle.shard_contents.specs.Commits.{HasRoom}
 use Rattle.shard_contents.specs.Transactions.{PendingView, IsClear, is_conflict, IsPending, IsPendingOf, entry_of, IsCommitAllRefusal}

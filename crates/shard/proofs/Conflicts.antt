@@ -10,12 +10,12 @@ use Rattle.journal.specs.Runs.{IsLegal}
 use Rattle.shard_run.specs.declared.ShardRecord.{ShardRecord}
 use Rattle.shard_run.specs.declared.Mode.TheVariants.{Following}
 use Rattle.shard_run.specs.Runs.{Run, Opening, shard_rows, first_rows, mode, stored_changes, is_stored, is_on, stored_on}
-use Rattle.shard_law.specs.Legal.{Legal}
-use Rattle.shard_law.proofs.Law.{legal_back}
-use Rattle.shard_law.proofs.Runs.{log}
-use Rattle.shard_law.proofs.Since.{told, since}
+use Rattle.shard_contents.specs.Legal.{Legal}
+use Rattle.shard_contents.proofs.Law.{legal_back}
+use Rattle.shard_contents.proofs.Runs.{log}
+use Rattle.shard_contents.proofs.Since.{told, since}
 use Rattle.shard_contents.specs.declared.touched_table.Touch.{Touch}
-use Rattle.shard_law.specs.Entries.{MayFollow}
+use Rattle.shard_contents.specs.Entries.{MayFollow}
 use Rattle.shard_contents.specs.Transactions.{changes_table, is_changed}
 use Rattle.shard_contents.proofs.Commits.{applied-append}
 use Rattle.shard_contents.proofs.Legality.{legal_is}

@@ -9,14 +9,14 @@ use Rattle.vt_value.specs.Values.{Row}
 use Rattle.vschema.specs.declared.schema.VSchema.{VSchema}
 use Rattle.vschema.specs.declared.schema.Table.{Table}
 use Rattle.vschema.specs.declared.schema.Place.{Place}
-use Rattle.keyrange.specs.Ranges.{has_id}
+use Rattle.vschema.specs.Ranges.{has_id}
 use Rattle.vschema.specs.declared.changes.Write.{Write}
 use Rattle.vschema.specs.declared.changes.RowChange.{RowChange}
 use Rattle.vschema.specs.declared.changes.RowChange.TheVariants.{Added, Replaced, Removed}
 use Rattle.vschema.specs.Schema.{no_table}
 use Rattle.vschema.specs.Database.{Database, SameRows, rows_of, without, applied, all_applied, changed_table, lies_in, restrict, change_lies_in, restricted_changes}
-use Rattle.sql_eval.specs.Writes.{written_table}
-use Rattle.sql_eval.proofs.ChangeLemmas.{rows-same}
+use Rattle.shard_contents.specs.Writes.{written_table}
+use Rattle.shard_contents.proofs.ChangeLemmas.{rows-same}
 use Rattle.shard_run.specs.declared.ShardRecord.{ShardRecord}
 use Rattle.shard_run.specs.declared.Follow as F
 use Rattle.shard_run.specs.declared.Commit as C
@@ -28,21 +28,21 @@ use Rattle.shard_run.specs.declared.Entry.{Entry}
 use Rattle.shard_run.specs.Openings.{IsOpening, row_count}
 use Rattle.shard_run.specs.Runs.{Run, Opening, database, shard_rows, first_rows, mode, mode_from, mode_after, opening_rows, opening_part, is_opening, answers_queries, is_on, is_stored, stored_on, stored_changes, entries_on, IsShardOf}
 use Rattle.shard_run.specs.Copies.{position, position_from, table_at, has_copied, is_copied, change_is_copied}
-use Rattle.shard_law.specs.Legal.{Legal, May, MayCommit, MayFollowSource, Had, AreChangesOf, IsOnItsSlot}
-use Rattle.shard_law.specs.Law.{SourcesApart, IsApartFrom, taken_rows, copied_rows}
-use Rattle.shard_law.proofs.Databases.{length-applied}
-use Rattle.shard_law.proofs.Rows.{head_is, tail_is}
-use Rattle.shard_law.proofs.Lists.{In, In-map, In-all, In-from_filter, Contains-from_In, slice_get-In, all-filter, all-passed, all-weaker}
-use Rattle.shard_law.proofs.Keeps.{IsKept}
-use Rattle.shard_law.proofs.Runs.{log, log-on, Of, of-later, Live, Slots, IsFit, IsInside, held_stored}
-use Rattle.shard_law.proofs.AtOneId.{not_following, still_follows}
-use Rattle.shard_law.proofs.Has.{of_shard, of-longer, restricted-longer}
-use Rattle.shard_law.proofs.Holds.{holds_its_part}
-use Rattle.shard_law.proofs.Copying.{copies_its_part, within_parts, held_long}
-use Rattle.shard_law.proofs.Stands.{is_shard, stands_where_it_served}
-use Rattle.shard_law.proofs.Law as law
-use Rattle.shard_law.proofs.Counts.{count, once, effect, tally, tally-cons, tally-none, count_at, count-applied, count-all_applied, count-filter_in, count-permuted, Test, Keeps, passes, other_row, effect-away}
-use Rattle.shard_law.specs.declared.limits.Limits.{Limits}
+use Rattle.shard_contents.specs.Legal.{Legal, May, MayCommit, MayFollowSource, Had, AreChangesOf, IsOnItsSlot}
+use Rattle.shard_contents.specs.Law.{SourcesApart, IsApartFrom, taken_rows, copied_rows}
+use Rattle.shard_contents.proofs.Databases.{length-applied}
+use Rattle.shard_contents.proofs.Rows.{head_is, tail_is}
+use Rattle.shard_contents.proofs.Lists.{In, In-map, In-all, In-from_filter, Contains-from_In, slice_get-In, all-filter, all-passed, all-weaker}
+use Rattle.shard_contents.proofs.Keeps.{IsKept}
+use Rattle.shard_contents.proofs.Runs.{log, log-on, Of, of-later, Live, Slots, IsFit, IsInside, held_stored}
+use Rattle.shard_contents.proofs.AtOneId.{not_following, still_follows}
+use Rattle.shard_contents.proofs.Has.{of_shard, of-longer, restricted-longer}
+use Rattle.shard_contents.proofs.Holds.{holds_its_part}
+use Rattle.shard_contents.proofs.ShardLawCopying.{copies_its_part, within_parts, held_long}
+use Rattle.shard_contents.proofs.Stands.{is_shard, stands_where_it_served}
+use Rattle.shard_contents.proofs.Law as law
+use Rattle.shard_contents.proofs.ShardLawCounts.{count, once, effect, tally, tally-cons, tally-none, count_at, count-applied, count-all_applied, count-filter_in, count-permuted, Test, Keeps, passes, other_row, effect-away}
+use Rattle.shard_contents.specs.Limits.{Limits}
 use Rattle.shard_contents.specs.Commits.{is_added, is_removed}
 use Rattle.shard_contents.specs.inner.Stores.{row_after}
 use Rattle.shard_contents.proofs.Bags.{length-same}
@@ -132,7 +132,7 @@ module _ (r : Row) (n : ℕ) where
       let rows = rows_of db m in
       let own = permuted_of m exact first of (of_table t w rows exact is) in
       let taken = permuted_taken exact first rows of (write_taken t w rows exact is) in
-      let same = Rattle.shard_law.proofs.Databases.length-all_applied first db in
+      let same = Rattle.shard_contents.proofs.Databases.length-all_applied first db in
       let more = written_there schema writes (all_applied first db) rest are (omega (arith, there, same)) in
       subst (λ l. AreThere l (count_at r n db)) (sym split)
       (there_then first rest (count_at r n db) (there_by_sum first (count_at r n db) (few first m own taken (m == n) refl))

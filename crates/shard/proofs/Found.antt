@@ -9,10 +9,10 @@ use Rattle.shard_run.specs.declared.Entry.{Entry}
 use Rattle.shard_run.specs.declared.Mode.{Mode}
 use Rattle.shard_run.specs.declared.Mode.TheVariants.{Following, Serving, Retired, Dropped}
 use Rattle.shard_run.specs.Runs.{Run, Opening, IsShardOf, is_opening, is_on, entries_on, mode, mode_from}
-use Rattle.shard_law.specs.Legal.{IsOnItsSlot}
-use Rattle.shard_law.specs.Entries.{ShardView}
-use Rattle.shard_law.proofs.Lists.{In, Contains-from_In, In-all, In-from_filter, In-map}
-use Rattle.shard_law.proofs.Since.{not_again}
+use Rattle.shard_contents.specs.Legal.{IsOnItsSlot}
+use Rattle.shard_contents.specs.Entries.{ShardView}
+use Rattle.shard_contents.proofs.Lists.{In, Contains-from_In, In-all, In-from_filter, In-map}
+use Rattle.shard_contents.proofs.Since.{not_again}
 
 -- on a slot that isn't an opening one the shard has an entry
 entered : (o : Opening) (run : Run) (s : ShardRecord) → IsOnItsSlot o run s → (mode o run s.slot ≡ Following → ⊥) → is_opening o s.slot ≡ false → (own : Run)

@@ -13,11 +13,11 @@ use Rattle.vschema.specs.declared.changes.RowChange.TheVariants.{Added, Replaced
 use Rattle.vschema.specs.Schema.{no_table}
 use Rattle.vschema.specs.Database.{Database, SameRows, rows_of, same_row, without, lies_in, applied, all_applied, change_lies_in}
 use Rattle.vschema.specs.TypedWrites.{IsTypedWrite}
-use Rattle.sql_eval.specs.Writes.{written_table}
-use Rattle.sql_eval.proofs.ChangeLemmas.{same_changes, rows-same}
-use Rattle.shard_law.specs.Legal.{IsChangeOf, AreChangesOf}
-use Rattle.shard_law.proofs.Lists.{all-append, all-from_list_all}
-use Rattle.shard_law.proofs.Typed.{keeps_keys-from_typed}
+use Rattle.shard_contents.specs.Writes.{written_table}
+use Rattle.shard_contents.proofs.ChangeLemmas.{same_changes, rows-same}
+use Rattle.shard_contents.specs.Legal.{IsChangeOf, AreChangesOf}
+use Rattle.shard_contents.proofs.Lists.{all-append, all-from_list_all}
+use Rattle.shard_contents.proofs.Typed.{keeps_keys-from_typed}
 use Rattle.shard_contents.specs.Commits.{IsPlaced}
 use Rattle.shard_contents.proofs.Bags.{all_applied-same}
 use Rattle.shard_contents.proofs.Commits.{applied-append}

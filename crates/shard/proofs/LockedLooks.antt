@@ -5,7 +5,7 @@ use Rattle.shard_run.specs.declared.ShardRecord.{ShardRecord}
 use Rattle.shard_run.specs.declared.Entry.{Entry}
 use Rattle.shard_run.specs.declared.Mode.{Mode}
 use Rattle.shard_run.specs.Runs.{Opening, Run, mode, entries_on, stored_on}
-use Rattle.shard_law.specs.Entries.{ShardView, slot_of, commit_of, MayFollow, seat_view}
+use Rattle.shard_contents.specs.Entries.{ShardView, slot_of, commit_of, MayFollow, seat_view}
 use Rattle.shard_contents.proofs.States.{mode-same, stored-same}
 
 -- the state is the shard's, before a look and after it

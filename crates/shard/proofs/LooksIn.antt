@@ -16,11 +16,11 @@ use Rattle.vschema.specs.Schema.{no_table}
 use Rattle.vschema.specs.Sources.{source_rows}
 use Rattle.vschema.specs.Storable.{is_storable}
 use Rattle.vschema.specs.Database.{Database, SameRows, rows_of, all_applied}
-use Rattle.sql_eval.specs.Groups.{CanBeSummed}
-use Rattle.sql_eval.specs.Queries.{Allowed}
-use Rattle.sql_eval.specs.Writes.{written_table, changes_of}
-use Rattle.sql_eval.proofs.ChangeLemmas.{same_changes, rows-same}
-use Rattle.sql_eval.proofs.SameAnswers.{same_allowed}
+use Rattle.shard_contents.specs.Groups.{CanBeSummed}
+use Rattle.shard_contents.specs.Queries.{Allowed}
+use Rattle.shard_contents.specs.Writes.{written_table, changes_of}
+use Rattle.shard_contents.proofs.ChangeLemmas.{same_changes, rows-same}
+use Rattle.shard_contents.proofs.SameAnswers.{same_allowed}
 use Rattle.journal.specs.Runs.{IsLegal, NumbersBelow}
 use Rattle.journal.specs.Views.{SeatView, PassView, IsLater}
 use Rattle.journal.proofs.Fronts.{prefix_self}
@@ -29,11 +29,11 @@ use Rattle.shard_run.specs.declared.Entry.{Entry}
 use Rattle.shard_run.specs.declared.ShardRecord.{ShardRecord}
 use Rattle.shard_run.specs.Runs.{Run, Opening, shard_rows, answers_queries, stored_on}
 use Rattle.shard_run.specs.Openings.{row_count}
-use Rattle.shard_law.specs.Legal.{IsChangeOf}
-use Rattle.shard_law.proofs.Storable.{held_storable}
-use Rattle.shard_law.specs.declared.limits.Limits.{Limits}
+use Rattle.shard_contents.specs.Legal.{IsChangeOf}
+use Rattle.shard_contents.proofs.Storable.{held_storable}
+use Rattle.shard_contents.specs.Limits.{Limits}
 use Rattle.shard_contents.specs.declared.contents.Contents.{Contents}
-use Rattle.shard_law.specs.Entries.{MayFollow, slot_of, commit_of, ShardView}
+use Rattle.shard_contents.specs.Entries.{MayFollow, slot_of, commit_of, ShardView}
 use Rattle.shard_contents.specs.Shards.{IsAfter}
 use Rattle.shard_contents.specs.Transactions.{PendingView, IsClear, IsPendingOf, HasWrittenIn, IsWriteRefusal, touched_with, entry_of}
 use Rattle.shard_contents.specs.Transactions as t

@@ -14,7 +14,7 @@ use Rattle.vschema.specs.Schema.{no_table}
 use Rattle.vschema.specs.Database.{Database, rows_of, all_applied}
 use Rattle.vschema.specs.Sources.{source_tables}
 use Rattle.vschema.specs.TypedWrites.{IsTypedWrite}
-use Rattle.sql_eval.specs.Writes.{written_table, changes_over}
+use Rattle.shard_contents.specs.Writes.{written_table, changes_over}
 use Rattle.journal.specs.Runs.{IsLegal, NumbersBelow}
 use Rattle.journal.specs.Views.{PassView}
 use Rattle.journal.proofs.Fronts.{prefix_trans}
@@ -22,13 +22,13 @@ use Rattle.shard_run.specs.declared.ShardRecord.{ShardRecord}
 use Rattle.shard_run.specs.declared.Mode.TheVariants.{Following, Serving}
 use Rattle.shard_run.specs.declared.Entry.{Entry}
 use Rattle.shard_run.specs.Runs.{Run, Opening, shard_rows, first_rows, mode, stored_on}
-use Rattle.shard_law.specs.Legal.{IsOnItsSlot, IsChangeOf, AreChangesOf}
+use Rattle.shard_contents.specs.Legal.{IsOnItsSlot, IsChangeOf, AreChangesOf}
 use Rattle.shard_run.specs.Openings.{IsOpening}
-use Rattle.shard_law.proofs.Databases.{length-all_applied}
-use Rattle.shard_law.proofs.Lists.{AllByRecursion-push, all-weaker}
-use Rattle.shard_law.proofs.Runs.{log}
+use Rattle.shard_contents.proofs.Databases.{length-all_applied}
+use Rattle.shard_contents.proofs.Lists.{AllByRecursion-push, all-weaker}
+use Rattle.shard_contents.proofs.Runs.{log}
 use Rattle.shard_contents.specs.declared.touched_table.Touch.{Touch}
-use Rattle.shard_law.specs.Entries.{MayFollow, commit_of}
+use Rattle.shard_contents.specs.Entries.{MayFollow, commit_of}
 use Rattle.shard_contents.specs.Commits.{IsPlaced}
 use Rattle.shard_contents.specs.Transactions.{PendingView, nothing_done, is_changed, is_conflict, is_touched, touched_with, touched_all, IsClear, IsTouchBy, IsPending, IsPendingOf, HasReadIn, HasWrittenIn, entry_of}
 use Rattle.shard.proofs.Conflicts.{same_rows, stored_is}

@@ -8,11 +8,11 @@ use Rattle.std.specs.declared.cmp.Ordering.{Ordering}
 use Rattle.std.specs.declared.cmp.Ordering.TheVariants.{Less, Equal, Greater}
 use Rattle.std.proofs.lemmas.Bool.{false≢true, eqb-true, eq-eqb, and_parts}
 use Rattle.std.proofs.lemmas.Cmp.{nat_list_cmp_total}
-use Rattle.keyrange.specs.Ranges.{is_before}
+use Rattle.vschema.specs.Ranges.{is_before}
 use Rattle.shard_run.specs.declared.ShardRecord.{ShardRecord}
 use Rattle.shard_run.specs.Runs.{Run, Opening}
 use Rattle.shard_run.specs.Copies.{table_at, has_copied_all}
-use Rattle.shard_law.specs.Legal.{IsTableOf}
+use Rattle.shard_contents.specs.Legal.{IsTableOf}
 use Rattle.shard_contents.specs.Copying.{HasCopiedAll, IsNextTable}
 use Rattle.shard_contents.specs.inner.Rowed.{first_named}
 

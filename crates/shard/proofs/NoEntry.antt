@@ -8,7 +8,7 @@ use Rattle.shard_run.specs.declared.Event.{Event}
 use Rattle.shard_run.specs.declared.Event.TheVariants.{Commit, Follow, Copy, Freeze, Thaw, Retire, Serve}
 use Rattle.shard_run.specs.declared.Entry.{Entry}
 use Rattle.shard_run.specs.Runs.{Run, Opening, is_on, is_stored, is_opening, entries_on, stored_on, mode, mode_from, mode_after}
-use Rattle.shard_law.specs.declared.limits.Limits.{Limits}
+use Rattle.shard_contents.specs.Limits.{Limits}
 use Rattle.shard_contents.specs.declared.contents.Contents.{Contents}
 use Rattle.shard_contents.specs.Progress.{steps_of, steps_on}
 use Rattle.shard_contents.specs.Kept.{kept_from}
@@ -17,7 +17,7 @@ use Rattle.shard_contents.specs.inner.StoredLogs.{count_of}
 use Rattle.shard_contents.proofs.Kept.{kept_none}
 use Rattle.shard_contents.proofs.KeptStored.{none_kept}
 use Rattle.shard_contents.proofs.StoredLogs.{count-stored}
-use Rattle.shard_law.specs.Entries.{ShardView}
+use Rattle.shard_contents.specs.Entries.{ShardView}
 use Rattle.shard_contents.specs.Shards.{Holds, Keeps, holds, dropped, IsAfter}
 
 -- what doesn't follow never follows again

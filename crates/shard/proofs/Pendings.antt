@@ -14,11 +14,11 @@ use Rattle.shard_run.specs.declared.ShardRecord.{ShardRecord}
 use Rattle.shard_run.specs.declared.Mode.TheVariants.{Serving}
 use Rattle.shard_run.specs.declared.Entry.{Entry}
 use Rattle.shard_run.specs.Runs.{Run, Opening, database, shard_rows, mode, answers_queries, first_rows, opening_rows, is_on}
-use Rattle.shard_law.specs.Legal.{IsOnItsSlot, IsChangeOf, AreChangesOf}
+use Rattle.shard_contents.specs.Legal.{IsOnItsSlot, IsChangeOf, AreChangesOf}
 use Rattle.shard_run.specs.Openings.{IsOpening}
-use Rattle.shard_law.proofs.Lists.{AllByRecursion-push, all-append, all-from_list_all}
-use Rattle.shard_law.proofs.Runs.{log, log-on, mode-on, commits, commits-push}
-use Rattle.shard_law.specs.Entries.{MayFollow, commit_of}
+use Rattle.shard_contents.proofs.Lists.{AllByRecursion-push, all-append, all-from_list_all}
+use Rattle.shard_contents.proofs.Runs.{log, log-on, mode-on, commits, commits-push}
+use Rattle.shard_contents.specs.Entries.{MayFollow, commit_of}
 use Rattle.shard_contents.specs.Commits.{IsPlaced}
 use Rattle.shard_contents.specs.Transactions.{entry_of}
 use Rattle.shard_contents.proofs.Bags.{all_applied-same}

@@ -11,7 +11,7 @@ use Rattle.std.proofs.lemmas.Cmp.{nat_list_cmp_total}
 use Rattle.std.proofs.lemmas.List.{append-nil, append_assoc}
 use Rattle.std.proofs.lemmas.List.Folds.{list_any-append}
 use Rattle.vt_value.specs.Values.{Row}
-use Rattle.sql_lexer.specs.Lexemes.{is_word}
+use Rattle.sql_tree.specs.Lexemes.{is_word}
 use Rattle.vschema.specs.WriteChecks.{has_twice}
 use Rattle.vschema.specs.declared.schema.Table.{Table}
 use Rattle.vschema.specs.declared.schema.VSchema.{VSchema}
@@ -25,9 +25,9 @@ use Rattle.shard_run.specs.declared.Entry.{Entry}
 use Rattle.shard_run.specs.Runs.{Run, Opening, is_on}
 use Rattle.shard_run.specs.Copies.{table_at, has_copied_all, is_copied, is_last}
 use Rattle.shard_run.specs.Openings.{IsOpening}
-use Rattle.shard_law.specs.Legal.{Legal, LegalFrom, IsOnItsSlot, May, IsTableOf}
-use Rattle.shard_law.specs.Law.{rows_copied}
-use Rattle.shard_law.proofs.Runs.{entries-off}
+use Rattle.shard_contents.specs.Legal.{Legal, LegalFrom, IsOnItsSlot, May, IsTableOf}
+use Rattle.shard_contents.specs.Law.{rows_copied}
+use Rattle.shard_contents.proofs.Runs.{entries-off}
 use Rattle.shard_contents.specs.declared.target_steps.TargetStep.{TargetStep}
 use Rattle.shard_contents.specs.declared.target_steps.TargetStep.TheVariants.{Followed, Copied}
 use Rattle.shard_contents.specs.Progress.{last_row, steps_of, steps_on}

@@ -7,9 +7,9 @@ use Rattle.shard_run.specs.declared.Entry.{Entry}
 use Rattle.shard_run.specs.declared.Event.TheVariants as events
 use Rattle.shard_run.specs.declared.Mode.TheVariants.{Retired, Dropped}
 use Rattle.shard_run.specs.Runs.{Run, Opening, stored_on, mode}
-use Rattle.shard_law.specs.declared.limits.Limits.{Limits}
+use Rattle.shard_contents.specs.Limits.{Limits}
 use Rattle.shard_contents.specs.declared.contents.Contents.{Contents}
-use Rattle.shard_law.specs.Entries.{ShardView}
+use Rattle.shard_contents.specs.Entries.{ShardView}
 use Rattle.shard_contents.proofs.States.{holds_of}
 use Rattle.shard_contents.specs.inner.StoredLogs.{count_of}
 use Rattle.shard_contents.proofs.KeptStored.{length-kept}

@@ -12,10 +12,10 @@ use Rattle.vschema.specs.Database.{Database, rows_of}
 use Rattle.vschema.specs.Schema.{no_table}
 use Rattle.vschema.specs.Sources.{padded_row, paired, is_pair, pairs_of, with_pairs, source_rows}
 use Rattle.vschema.specs.Storable.{is_storable}
-use Rattle.sql_eval.specs.Groups.{CanBeSummed}
-use Rattle.sql_eval.proofs.Pairs.{all_join}
-use Rattle.sql_eval.proofs.Sums.{storable_summed}
-use Rattle.shard_law.proofs.Lists.{all-weaker}
+use Rattle.shard_contents.specs.Groups.{CanBeSummed}
+use Rattle.shard_contents.proofs.Pairs.{all_join}
+use Rattle.shard_contents.proofs.Sums.{storable_summed}
+use Rattle.shard_contents.proofs.Lists.{all-weaker}
 
 -- the row alone can be counted and summed
 abbrev FitsSums : Row → Type 0

@@ -13,9 +13,9 @@ use Rattle.shard_run.specs.declared.Entry.{Entry}
 use Rattle.shard_run.specs.declared.Mode.TheVariants.{Serving}
 use Rattle.shard_run.specs.Runs.{Run, Opening, mode, answers_queries, entries_on}
 use Rattle.shard_run.specs.Openings.{row_count}
-use Rattle.shard_law.specs.declared.limits.Limits.{Limits}
+use Rattle.shard_contents.specs.Limits.{Limits}
 use Rattle.shard_contents.specs.declared.contents.Contents.{Contents}
-use Rattle.shard_law.specs.Entries.{MayFollow, HasLooked, ShardView, slot_of, commit_of}
+use Rattle.shard_contents.specs.Entries.{MayFollow, HasLooked, ShardView, slot_of, commit_of}
 use Rattle.shard_contents.specs.Shards.{IsAfter}
 use Rattle.shard_contents.specs.KeptEntries.{kept_of}
 use Rattle.shard_contents.specs.Transactions.{PendingView, IsClear, IsPendingOf, entry_of, IsCommitAllRefusal, HasCommittedAll}

@@ -18,17 +18,17 @@ use Rattle.vschema.specs.declared.changes.RowChange.{RowChange}
 use Rattle.vschema.specs.declared.changes.RowChange.TheVariants.{Added, Replaced, Removed}
 use Rattle.vschema.specs.Schema.{no_table}
 use Rattle.vschema.specs.Database.{Database, rows_of, same_row, without, all_applied}
-use Rattle.sql_eval.specs.Conditions.{is_kept}
-use Rattle.sql_eval.specs.Writes.{has_duplicate, assigned, row_updates, written_table, changes_over}
-use Rattle.sql_eval.proofs.ChangeLemmas.{ok_is}
+use Rattle.shard_contents.specs.Conditions.{is_kept}
+use Rattle.shard_contents.specs.Writes.{has_duplicate, assigned, row_updates, written_table, changes_over}
+use Rattle.shard_contents.proofs.ChangeLemmas.{ok_is}
 use Rattle.journal.proofs.Counts.{count-append}
-use Rattle.shard_law.proofs.Counts.{count, once, same_self, count-none, count-append as row_count-append, count-one, count-without}
-use Rattle.shard_law.proofs.Databases.{length-all_applied}
+use Rattle.shard_contents.proofs.ShardLawCounts.{count, once, same_self, count-none, count-append as row_count-append, count-one, count-without}
+use Rattle.shard_contents.proofs.Databases.{length-all_applied}
 use Rattle.shard_run.specs.declared.ShardRecord.{ShardRecord}
 use Rattle.shard_run.specs.Runs.{Opening, Run, shard_rows, entries_on, stored_on}
-use Rattle.shard_law.specs.Legal.{AreChangesOf}
+use Rattle.shard_contents.specs.Legal.{AreChangesOf}
 use Rattle.shard_run.specs.Openings.{row_count}
-use Rattle.shard_law.specs.declared.limits.Limits.{Limits}
+use Rattle.shard_contents.specs.Limits.{Limits}
 use Rattle.shard_contents.specs.Commits.{HasRoom, is_added, is_removed}
 use Rattle.shard_contents.specs.inner.Transactions.{has_room_for}
 use Rattle.shard_contents.proofs.Changes.{AreOf, of_table}

@@ -4,7 +4,7 @@ use Rattle.journal.specs.Views.{PassView}
 use Rattle.shard_run.specs.declared.Event.{Event}
 use Rattle.shard_run.specs.declared.Entry.{Entry}
 use Rattle.shard_run.specs.Runs.{Opening, entries_on}
-use Rattle.shard_law.specs.Entries.{ShardView, HasLooked, HasAppended}
+use Rattle.shard_contents.specs.Entries.{ShardView, HasLooked, HasAppended}
 
 -- the pass looked at the shard on the slot twice, and nowhere else between the two
 pub record HasLookedTwice (o : Opening) (slot : ℕ) (p now : PassView Entry) : Type 0 where

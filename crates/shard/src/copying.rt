@@ -13,7 +13,7 @@ ghost use Rattle.shard_run.specs.Runs.{mode, answers_queries, entries_on, stored
 ghost use Rattle.shard_run.specs.Openings.{row_count};
 ghost use Rattle.shard_run.specs.Copies.{position, table_at, has_copied_all, is_copied, change_is_copied};
 ghost use Rattle.shard_contents.specs.Progress.{step_position};
-ghost use Rattle.shard_law.specs.Entries.{MayFollow, HasLooked, HasAppended};
+ghost use Rattle.shard_contents.specs.Entries.{MayFollow, HasLooked, HasAppended};
 ghost use Rattle.shard_contents.specs.Copying.{HasCopiedAll, IsNextTable, IsProgress, IsEntryFor, IsCopyFor, IsNextCopy, PassesLimit, is_reached};
 ghost use Rattle.shard_contents.specs.inner.Rowed.{first_named};
 ghost use Rattle.shard.specs.inner.Reached.{IsLastCopy, is_whole};

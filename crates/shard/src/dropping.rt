@@ -6,9 +6,8 @@ ghost use Rattle.shard_contents.specs.inner.StoredLogs.{nothing_stored};
 use crate::state::ShardState;
 use crate::world::World;
 use journal::Naming;
-use shard_contents::{Contents, StoredEntries};
+use shard_contents::{Contents, StoredEntries, StoredTables};
 use shard_run::Mode;
-use shard_store::StoredTables;
 
 // Nothing is left of what the shard held. Takes no memory.
 fn empty(contents: &mut Contents)

@@ -1,12 +1,12 @@
 //! What a transaction does on its one shard, under the shard's lock.
 ghost use Rattle.std.specs.Prelude.{◌≡◌, ◌<◌, ℕ, Some, IsSome, MatchResult, length};
 ghost use Rattle.vschema.specs.Sources.{SourcesThere};
-ghost use Rattle.sql_eval.specs.Writes.{written_table};
+ghost use Rattle.shard_contents.specs.Writes.{written_table};
 ghost use Rattle.journal.specs.Runs.{NumbersBelow};
 ghost use Rattle.shard_run.specs.declared.ShardRecord as which;
 ghost use Rattle.shard_run.specs.Runs.{entries_on, mode};
-ghost use Rattle.shard_law.specs.Legal.{IsOnItsSlot};
-ghost use Rattle.shard_law.specs.Entries.{commit_of, HasLooked};
+ghost use Rattle.shard_contents.specs.Legal.{IsOnItsSlot};
+ghost use Rattle.shard_contents.specs.Entries.{commit_of, HasLooked};
 ghost use Rattle.shard.specs.Seats.{place_at};
 ghost use Rattle.shard_contents.specs.Transactions.{IsClear, IsPendingOf, HasReadIn, HasWrittenIn, IsStopped, IsReadRefusal, IsWriteRefusal, HasCommittedAll, IsCommitAllRefusal};
 

@@ -4,7 +4,7 @@ ghost use mathlib.Core.List.{IsPrefix};
 ghost use Rattle.shard_run.specs.declared.Event.{Event};
 ghost use Rattle.shard_run.specs.Runs.{mode, entries_on, shard_rows};
 ghost use Rattle.shard_run.specs.Openings.{row_count};
-ghost use Rattle.shard_law.specs.Legal.{MayRetire, MayServe};
+ghost use Rattle.shard_contents.specs.Legal.{MayRetire, MayServe};
 ghost use Rattle.shard.specs.Modes.{HasLookedTwice, HasChangedMode};
 
 use crate::state::{ShardState, append_event};

@@ -1,8 +1,8 @@
 //! A read of many rows: the look and a snapshot under the shard's lock, and the rows that the query gives once the lock is given back.
 ghost use Rattle.std.specs.Prelude.{◌≡◌, List, IfOk, OnErr};
 ghost use Rattle.vschema.specs.Sources.{source_rows};
-ghost use Rattle.sql_eval.specs.Groups.{CanBeSummed};
-ghost use Rattle.sql_eval.specs.Queries.{Allowed};
+ghost use Rattle.shard_contents.specs.Groups.{CanBeSummed};
+ghost use Rattle.shard_contents.specs.Queries.{Allowed};
 ghost use Rattle.shard_run.specs.declared.ShardRecord as which;
 ghost use Rattle.shard_run.specs.declared.Entry.{Entry};
 ghost use Rattle.shard_run.specs.Runs.{Opening};
@@ -10,8 +10,7 @@ ghost use Rattle.shard_contents.specs.Shards.{AnswersQuery};
 ghost use Rattle.shard_contents.specs.Transactions.{HasReadIn};
 ghost use Rattle.shard.specs.inner.Snapshots.{HasBegun, HasBegunIn, HasRows, IsGivenBy, IsReadable, IsSummable, IsToRead};
 
-use shard_contents::{Pending, ReadOutcome, Reading, select_in_transaction};
-use shard_store::StoredTables;
+use shard_contents::{Pending, ReadOutcome, Reading, StoredTables, select_in_transaction};
 use std::alloc::{AllocError, Global};
 use vschema::{Query, RowChange};
 use vt_value::{Items, Row};

@@ -4,16 +4,16 @@ ghost use Rattle.std.specs.Prelude.{◌≡◌, ◌↔◌, IsTrue, ◌⊎◌, ◌
 ghost use Rattle.vschema.specs.TypedWrites.{IsTypedWrite};
 ghost use Rattle.vschema.specs.declared.schema.Query as asked;
 ghost use Rattle.vschema.specs.Sources.{source_rows};
-ghost use Rattle.sql_eval.specs.Groups.{CanBeSummed};
-ghost use Rattle.sql_eval.specs.Queries.{Allowed};
+ghost use Rattle.shard_contents.specs.Groups.{CanBeSummed};
+ghost use Rattle.shard_contents.specs.Queries.{Allowed};
 ghost use Rattle.journal.specs.Views.{IsLater};
 ghost use Rattle.shard_run.specs.declared.Entry.{Entry};
 ghost use Rattle.shard_run.specs.declared.Event.{Event};
 ghost use Rattle.shard_run.specs.Runs.{shard_rows, mode, mode_after, answers_queries, entries_on, stored_on};
-ghost use Rattle.shard_law.specs.Legal.{May};
+ghost use Rattle.shard_contents.specs.Legal.{May};
 ghost use Rattle.shard_run.specs.Openings.{row_count};
 ghost use Rattle.journal.specs.Runs.{IsLegal};
-ghost use Rattle.shard_law.specs.Entries.{MayFollow, slot_of, commit_of};
+ghost use Rattle.shard_contents.specs.Entries.{MayFollow, slot_of, commit_of};
 ghost use Rattle.shard_contents.specs.Shards.{beyond, IsAfter};
 ghost use Rattle.shard_contents.specs.inner.Shards.{is_plain};
 ghost use Rattle.shard.specs.inner.Snapshots.{IsSnapshotAt, HasBegun, IsSummable};
@@ -22,12 +22,10 @@ use crate::snapshot::{BegunRead, MOST_ROWS_UNDER_LOCK, Snapshot};
 use crate::world::{ShardLaw, ShardPass, World};
 use journal::{Naming, ShardSeat};
 use shard_contents::{
-    CommitOutcome, Contents, ReadOutcome, Reading, SortedTables, StatementId, StoredEntries,
-    TargetStep,
+    CommitOutcome, Contents, Limits, ReadOutcome, Reading, SortedTables, StatementId,
+    StoredEntries, StoredTables, TargetStep,
 };
-use shard_law::Limits;
 use shard_run::{Entry, Event, Follow, Mode, ShardRecord};
-use shard_store::StoredTables;
 use std::alloc::{AllocError, Global};
 use std::marker::Model;
 use std::mem::replace;
@@ -49,7 +47,7 @@ pub struct ShardState<W: World, J: Naming> {
 }
 
 impl<W: World, J: Naming> Model for ShardState<W, J> {
-    ghost use Rattle.shard_law.specs.Entries.{ShardView};
+    ghost use Rattle.shard_contents.specs.Entries.{ShardView};
     ghost use Rattle.shard_contents.specs.Shards.{IsAfter, RetiredFor};
     ghost use Rattle.shard_contents.specs.inner.Earlier.{AllHadRows};
     ghost use Rattle.std.specs.Coded.{codes};
@@ -123,13 +121,13 @@ impl<W: World, J: Naming> ShardState<W, J> {
     ghost use Rattle.shard_run.specs.Openings.{IsOpening};
     ghost use Rattle.shard_run.specs.Copies.{position};
     ghost use Rattle.shard_contents.specs.Progress.{step_position};
-    ghost use Rattle.shard_law.specs.Legal.{IsOnItsSlot, MayRetire, MayServe};
+    ghost use Rattle.shard_contents.specs.Legal.{IsOnItsSlot, MayRetire, MayServe};
     ghost use Rattle.journal.specs.Views.{PassView};
-    ghost use Rattle.shard_law.specs.Entries.{HasLooked, HasAppended, opening_shards, seat_view};
+    ghost use Rattle.shard_contents.specs.Entries.{HasLooked, HasAppended, opening_shards, seat_view};
     ghost use Rattle.shard_contents.specs.Shards.{AnswersQuery, IsNext};
     ghost use Rattle.shard_contents.specs.Commits.{IsPlaced, HasCommitted, IsCommitRefusal, HasAnswered};
     ghost use Rattle.shard_contents.specs.Copying.{PassesLimit};
-    ghost use Rattle.shard_law.specs.Law.{SourcesApart};
+    ghost use Rattle.shard_contents.specs.Law.{SourcesApart};
 
     // Promise: A shard's rows (as bags), mode, stored entries, targets and how far it has come with each source are those that the run
     // which its seat has seen leaves on it, within its limits if it serves: the invariant of the type. It is an opening shard or a

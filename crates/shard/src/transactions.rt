@@ -2,7 +2,7 @@
 ghost use Rattle.std.specs.Prelude.{List, ◌≡◌, ◌↔◌, IsTrue, ◌≤◌, ◌<◌, ◌++◌, ◌∷◌, [], ℕ, Some, IsSome, IfOk, IfErr, OnOk, OnErr, length};
 ghost use Rattle.vschema.specs.Sources.{SourcesThere};
 ghost use Rattle.vschema.specs.TypedWrites.{IsTypedWrite};
-ghost use Rattle.sql_eval.specs.Writes.{written_table};
+ghost use Rattle.shard_contents.specs.Writes.{written_table};
 
 use crate::snapshot::{BegunReadIn, rows_in};
 use crate::state::ShardState;
@@ -26,8 +26,8 @@ impl<W: World, J: Naming> ShardState<W, J> {
     ghost use Rattle.journal.specs.Runs.{NumbersBelow};
     ghost use Rattle.journal.specs.Views.{IsLater};
     ghost use Rattle.shard_run.specs.Runs.{entries_on};
-    ghost use Rattle.shard_law.specs.Legal.{IsOnItsSlot};
-    ghost use Rattle.shard_law.specs.Entries.{slot_of, commit_of, MayFollow, HasLooked, seat_view};
+    ghost use Rattle.shard_contents.specs.Legal.{IsOnItsSlot};
+    ghost use Rattle.shard_contents.specs.Entries.{slot_of, commit_of, MayFollow, HasLooked, seat_view};
     ghost use Rattle.shard_contents.specs.Commits.{IsPlaced};
     ghost use Rattle.shard.specs.inner.Snapshots.{HasBegunIn, IsToRead};
     ghost use Rattle.shard_contents.specs.Transactions.{IsClear, IsPendingOf, HasReadIn, HasWrittenIn, IsStopped, IsReadRefusal, IsWriteRefusal, HasCommittedAll, IsCommitAllRefusal};

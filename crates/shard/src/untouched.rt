@@ -1,7 +1,7 @@
 //! A shard on which nothing happened gives its seat back.
 ghost use Rattle.std.specs.Prelude.{◌≡◌, ◌↔◌, [], true, false};
 ghost use Rattle.shard_run.specs.Runs.{entries_on, is_opening};
-ghost use Rattle.shard_law.specs.Entries.{seat_view};
+ghost use Rattle.shard_contents.specs.Entries.{seat_view};
 
 use crate::locked::Shard;
 use crate::state::ShardState;
@@ -22,12 +22,7 @@ fn follows(contents: &Contents) -> bool
 impl<W: World, J: Naming> Shard<W, J> {
     /// The shard's state, which no lock is over from now on.
     pub fn into_state(self) -> ShardState<W, J> {
-        let Shard {
-            slot: _,
-            place: _,
-            state,
-        } = self;
-        state.into_inner()
+        self.into_lock().into_inner()
     }
 }
 

@@ -10,18 +10,18 @@ use Rattle.planner.specs.Plans.{piece_of}
 use Rattle.journal.specs.Runs.{IsLegal}
 use Rattle.journal.specs.Views.{PassView}
 use Rattle.journal.proofs.Fronts.{prefix_self}
-use Rattle.shard_run.specs.declared.ShardRecord.{ShardRecord}
-use Rattle.shard_run.specs.declared.Entry.{Entry}
-use Rattle.shard_run.specs.declared.Mode.TheVariants.{Following}
-use Rattle.shard_run.specs.Runs.{Opening, mode, answers_queries}
-use Rattle.shard_contents.specs.declared.outcomes.Reading.{Reading}
-use Rattle.shard_contents.specs.declared.outcomes.ReadOutcome.{ReadOutcome}
-use Rattle.shard_contents.specs.declared.outcomes.ReadOutcome.TheVariants.{Rows, NotServing}
-use Rattle.shard_contents.specs.Shards as sh
-use Rattle.shard_contents.specs.Shards.{AnswersQuery}
-use Rattle.shard_law.specs.Legal.{IsOnItsSlot}
-use Rattle.shard_law.specs.Entries.{MayFollow, HasLooked}
-use Rattle.shard_law.proofs.Lists.{Contains-from_In}
+use Rattle.shard.specs.ShardRecord.{ShardRecord}
+use Rattle.shard.specs.Entry.{Entry}
+use Rattle.shard.specs.Mode.TheVariants.{Following}
+use Rattle.shard.specs.Runs.{Opening, mode, answers_queries}
+use Rattle.shard.specs.Reading.{Reading}
+use Rattle.shard.specs.ReadOutcome.{ReadOutcome}
+use Rattle.shard.specs.ReadOutcome.TheVariants.{Rows, NotServing}
+use Rattle.shard.specs.Shards as sh
+use Rattle.shard.specs.Shards.{AnswersQuery}
+use Rattle.shard.specs.Legal.{IsOnItsSlot}
+use Rattle.shard.specs.Entries.{MayFollow, HasLooked}
+use Rattle.shard.proofs.Lists.{Contains-from_In}
 use Rattle.serving.specs.Partitions.{Seat}
 use Rattle.shard.specs.Seats.{place_at}
 use Rattle.shard_calls.specs.Answers.{needed, HasGoneOn, HasServed, IsHeldUp}

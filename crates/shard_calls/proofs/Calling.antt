@@ -8,17 +8,17 @@ use Rattle.vschema.specs.declared.schema.Place.{Place}
 use Rattle.vschema.specs.declared.schema.Query.{Query}
 use Rattle.vschema.specs.declared.changes.Write.{Write}
 use Rattle.journal.specs.Views.{PassView}
-use Rattle.shard_run.specs.declared.ShardRecord.{ShardRecord}
-use Rattle.shard_run.specs.declared.Entry.{Entry}
-use Rattle.shard_run.specs.declared.Mode.TheVariants.{Following}
-use Rattle.shard_run.specs.Runs.{Opening, mode}
-use Rattle.shard_law.specs.Legal.{IsOnItsSlot}
-use Rattle.shard_law.specs.declared.limits.Limits.{Limits}
+use Rattle.shard.specs.ShardRecord.{ShardRecord}
+use Rattle.shard.specs.Entry.{Entry}
+use Rattle.shard.specs.Mode.TheVariants.{Following}
+use Rattle.shard.specs.Runs.{Opening, mode}
+use Rattle.shard.specs.Legal.{IsOnItsSlot}
+use Rattle.shard.specs.Limits.{Limits}
 use Rattle.serving.specs.Partitions.{Seat}
-use Rattle.shard_law.specs.Entries.{HasLooked}
+use Rattle.shard.specs.Entries.{HasLooked}
 use Rattle.shard.specs.Seats.{place_at}
-use Rattle.shard_contents.specs.Transactions.{PendingView, IsClear, IsStopped, HasReadIn, HasWrittenIn, HasCommittedAll, IsReadRefusal, IsWriteRefusal, IsCommitAllRefusal}
-use Rattle.shard_contents.specs.Transactions as tx
+use Rattle.shard.specs.Transactions.{PendingView, IsClear, IsStopped, HasReadIn, HasWrittenIn, HasCommittedAll, IsReadRefusal, IsWriteRefusal, IsCommitAllRefusal}
+use Rattle.shard.specs.Transactions as tx
 use Rattle.shard_calls.specs.declared.reply.ShardRead.{ShardRead}
 use Rattle.shard_calls.specs.Answers.{HasServed}
 use Rattle.shard_calls.specs.Pendings.{BoundView, bound_of}

@@ -7,13 +7,13 @@ use Rattle.vschema.specs.declared.schema.Place.{Place}
 use Rattle.journal.specs.Views.{PassView}
 use Rattle.journal.proofs.Fronts.{prefix_self, prefix_trans}
 use Rattle.serving.specs.Partitions.{Seat}
-use Rattle.shard_run.specs.declared.ShardRecord.{ShardRecord}
-use Rattle.shard_run.specs.declared.Mode.TheVariants.{Following}
-use Rattle.shard_run.specs.declared.Entry.{Entry}
-use Rattle.shard_run.specs.Runs.{Run, Opening, mode}
-use Rattle.shard_law.specs.Legal.{IsOnItsSlot}
-use Rattle.shard_law.proofs.Lists.{AllByRecursion-push, all-weaker}
-use Rattle.shard_law.specs.Entries.{HasLooked}
+use Rattle.shard.specs.ShardRecord.{ShardRecord}
+use Rattle.shard.specs.Mode.TheVariants.{Following}
+use Rattle.shard.specs.Entry.{Entry}
+use Rattle.shard.specs.Runs.{Run, Opening, mode}
+use Rattle.shard.specs.Legal.{IsOnItsSlot}
+use Rattle.shard.proofs.Lists.{AllByRecursion-push, all-weaker}
+use Rattle.shard.specs.Entries.{HasLooked}
 use Rattle.shard.specs.Seats.{seat_of, place_at}
 use Rattle.shard.proofs.Found.{of_run}
 use Rattle.shard_calls.specs.Answers.{HasGone, HasGoneOn, HasServed, WasFound}

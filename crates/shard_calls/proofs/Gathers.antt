@@ -8,13 +8,13 @@ use Rattle.vt_value.specs.Values.{Row}
 use Rattle.journal.specs.Runs.{IsLegal}
 use Rattle.journal.specs.Views.{PassView, IsLonger}
 use Rattle.journal.proofs.Fronts.{prefix_trans}
-use Rattle.shard_run.specs.declared.Entry.{Entry}
-use Rattle.shard_run.specs.Runs.{Opening}
-use Rattle.shard_law.proofs.Lists.{AllByRecursion-push, all-weaker, flat_map-push, In-right, Contains-from_In}
-use Rattle.shard_contents.specs.declared.outcomes.Reading.{Reading}
-use Rattle.shard_contents.specs.declared.outcomes.ReadOutcome.{ReadOutcome}
-use Rattle.shard_contents.specs.declared.outcomes.ReadOutcome.TheVariants as r
-use Rattle.shard_law.specs.Entries.{slot_of, commit_of, MayFollow}
+use Rattle.shard.specs.Entry.{Entry}
+use Rattle.shard.specs.Runs.{Opening}
+use Rattle.shard.proofs.Lists.{AllByRecursion-push, all-weaker, flat_map-push, In-right, Contains-from_In}
+use Rattle.shard.specs.Reading.{Reading}
+use Rattle.shard.specs.ReadOutcome.{ReadOutcome}
+use Rattle.shard.specs.ReadOutcome.TheVariants as r
+use Rattle.shard.specs.Entries.{slot_of, commit_of, MayFollow}
 use Rattle.shard_calls.specs.declared.reply.ShardRead.{ShardRead}
 use Rattle.shard_calls.specs.Answers.{HasGoneOn, HasGone}
 use Rattle.shard_calls.specs.inner.Scatter.{ShardReply, is_read, IsGathered, IsStalled, given_rows, given_read, given_looks}

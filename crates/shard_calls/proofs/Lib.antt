@@ -6,3 +6,16 @@ pub mod Alone
 pub mod Calling
 pub mod Finding
 pub mod Narrowings
+pub use Rattle.shard.proofs.Legality
+pub use Rattle.shard.proofs.Moves
+pub use Rattle.shard.proofs.Pendings
+pub use Rattle.shard.proofs.Conflicts
+pub use Rattle.shard.proofs.LooksIn
+pub use Rattle.shard.proofs.HeldRows
+pub use Rattle.shard.proofs.state_lock.StateLock.TheSendSync as StatelockTheSendSync
+pub use Rattle.shard.proofs.Inside
+pub use Rattle.planner.proofs.Placed
+pub use Rattle.planner.proofs.Rights
+pub use Rattle.planner.proofs.ShardPairs
+pub use Rattle.planner.proofs.Skips
+pub use Rattle.planner.proofs.PieceSums

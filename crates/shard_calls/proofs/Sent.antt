@@ -11,25 +11,25 @@ use Rattle.journal.specs.contracts.seat.ShardSeat as seat
 use Rattle.journal.proofs.pass.Pass.TheSendSync as sent_pass
 use Rattle.journal.proofs.seat.ShardSeat.TheSendSync as sent_seat
 use Rattle.shard.specs.declared.world.World as world
-use Rattle.shard_contents.specs.contracts.contents.Contents as contents
+use Rattle.shard.specs.Contents as contents
 use Rattle.shard.specs.contracts.locked.Shard as locked
 use Rattle.shard.specs.contracts.locked.Shard.TheInside as locked_inside
 use Rattle.shard.specs.contracts.state.ShardState as state
 use Rattle.shard.specs.contracts.state.ShardState.TheInside as state_inside
 use Rattle.shard.specs.contracts.world.ShardLaw as law
 use Rattle.shard.specs.contracts.world.ShardLawLaw.TheImpl as laws
-use Rattle.shard_store.proofs.stored.StoredTables.TheSendSync as store
-use Rattle.shard_contents.proofs.stored_entries.StoredEntries.TheSendSync as stored
-use Rattle.shard_contents.proofs.sorted.SortedTables.TheSendSync as sorted
-use Rattle.shard_run.specs.contracts.Entry as entry
-use Rattle.shard_run.specs.contracts.ShardRecord as which
+use Rattle.shard.proofs.StoredtablesTheSendSync as store
+use Rattle.shard.proofs.StoredentriesTheSendSync as stored
+use Rattle.shard.proofs.SortedtablesTheSendSync as sorted
+use Rattle.shard.specs.ShardRunEntry as entry
+use Rattle.shard.specs.ShardRunShardRecord as which
 use Rattle.vt_value.specs.contracts.Items as items
-use Rattle.shard_run.proofs.Sent.{entry_send}
+use Rattle.shard.proofs.Sent.{entry_send}
 use Rattle.sql_tree.proofs.Condition.TheLaws.TheKnot as condition
 use Rattle.vschema.specs.contracts.schema.Query as query
 use Rattle.vschema.proofs.schema.Place.TheSendSync as place
 use Rattle.std.proofs.alloc.AllocError.TheSendSync as refused
-use Rattle.shard_contents.proofs.outcomes.ReadOutcome.TheSendSync as reading
+use Rattle.shard.proofs.ReadoutcomeTheSendSync as reading
 use Rattle.shard_calls.specs.contracts.pieces.Piece as piece
 use Rattle.shard_calls.specs.contracts.pieces.Piece.TheInside as piece_inside
 use Rattle.shard_calls.specs.contracts.scatter.ReadJob as job

@@ -3,7 +3,7 @@ use Rattle.std.proofs.Common.{◌≡◌, ℕ, ◌+◌, Bool, true, false, cond, 
 use Rattle.std.proofs.lemmas.List.{append_assoc, length-map}
 use Rattle.vschema.specs.declared.schema.Table.{Table}
 use Rattle.planner.specs.declared.plans.Plan.{Plan}
-use Rattle.shard_run.specs.declared.Entry.{Entry}
+use Rattle.shard.specs.Entry.{Entry}
 use Rattle.planner.specs.Routes.{takes}
 use Rattle.serving.specs.Partitions.{Seat}
 use Rattle.shard_calls.specs.Answers.{needed}

@@ -13,13 +13,13 @@ use Rattle.vschema.specs.declared.changes.Write.{Write}
 use Rattle.vschema.specs.declared.changes.RowChange.{RowChange}
 use Rattle.vschema.specs.Database.{Database, all_applied}
 use Rattle.vschema.specs.TypedStatement.{typed_statement}
-use Rattle.sql_eval.specs.Queries.{Allowed}
-use Rattle.sql_eval.specs.Writes.{changes_of}
+use Rattle.shard.specs.Queries.{Allowed}
+use Rattle.shard.specs.Writes.{changes_of}
 use Rattle.journal.specs.Views.{PassView}
-use Rattle.shard_run.specs.declared.Entry.{Entry}
-use Rattle.shard_run.specs.Runs.{Run}
-use Rattle.shard_law.specs.Legal.{IsChangeOf}
-use Rattle.shard_law.specs.Entries.{commit_of}
+use Rattle.shard.specs.Entry.{Entry}
+use Rattle.shard.specs.Runs.{Run}
+use Rattle.shard.specs.Legal.{IsChangeOf}
+use Rattle.shard.specs.Entries.{commit_of}
 use Rattle.shard_calls.specs.declared.reply.Selected.{Selected}
 use Rattle.shard_calls.specs.declared.reply.Answer.{Answer}
 use Rattle.shard_calls.specs.declared.reply.Answer.TheVariants.{Rows, Count}

@@ -10,22 +10,22 @@ use Rattle.vschema.specs.declared.schema.Typed.{Typed}
 use Rattle.vschema.specs.declared.schema.Typed.TheVariants as typed
 use Rattle.vschema.specs.declared.changes.Write.{Write}
 use Rattle.vschema.specs.declared.changes.RowChange.{RowChange}
-use Rattle.sql_eval.specs.Queries.{Allowed}
-use Rattle.sql_eval.specs.Writes.{written_table, changes_of}
+use Rattle.shard.specs.Queries.{Allowed}
+use Rattle.shard.specs.Writes.{written_table, changes_of}
 use Rattle.planner.specs.declared.routes.Route.{Route}
 use Rattle.planner.specs.Routes.{table_at, route_of, write_route, takes}
 use Rattle.journal.specs.Runs.{IsLegal, by_session}
 use Rattle.journal.specs.Views.{PassView}
-use Rattle.shard_run.specs.declared.Mode.{Mode}
-use Rattle.shard_run.specs.declared.Mode.TheVariants.{Following, Serving}
-use Rattle.shard_run.specs.declared.ShardRecord.{ShardRecord}
-use Rattle.shard_run.specs.declared.Entry.{Entry}
-use Rattle.shard_run.specs.Runs.{Run, Opening, IsShardOf, database, shard_rows, mode, answers_queries, entries_on}
-use Rattle.shard_law.specs.declared.limits.Limits.{Limits}
-use Rattle.shard_law.specs.Law.{Serves}
+use Rattle.shard.specs.Mode.{Mode}
+use Rattle.shard.specs.Mode.TheVariants.{Following, Serving}
+use Rattle.shard.specs.ShardRecord.{ShardRecord}
+use Rattle.shard.specs.Entry.{Entry}
+use Rattle.shard.specs.Runs.{Run, Opening, IsShardOf, database, shard_rows, mode, answers_queries, entries_on}
+use Rattle.shard.specs.Limits.{Limits}
+use Rattle.shard.specs.Law.{Serves}
 use Rattle.serving.specs.Partitions.{Seat, IsPartition, AreOf}
-use Rattle.shard_law.specs.Entries.{MayFollow, HasLooked, commit_of}
-use Rattle.shard_contents.specs.Commits.{HasCommitted, HasRoom}
+use Rattle.shard.specs.Entries.{MayFollow, HasLooked, commit_of}
+use Rattle.shard.specs.Commits.{HasCommitted, HasRoom}
 use Rattle.shard_calls.specs.declared.reply.Selected.{Selected}
 use Rattle.shard_calls.specs.declared.reply.Answer.TheVariants.{Rows, Count}
 use Rattle.shard_calls.specs.declared.reply.ShardRead.{ShardRead}

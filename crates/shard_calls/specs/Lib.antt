@@ -4,3 +4,16 @@ pub mod Alone
 pub mod Transactions
 pub mod Pendings
 pub mod inner
+pub use Rattle.shard.specs.Touch
+pub use Rattle.shard.specs.Seats
+pub use Rattle.shard.specs.declared.world.World
+pub use Rattle.shard.specs.contracts.locked.Shard
+pub use Rattle.shard.specs.contracts.locked.ShardSeated
+pub use Rattle.shard.specs.contracts.state.ShardState
+pub use Rattle.shard.specs.contracts.world.ShardLawLaw
+pub use Rattle.sql_parser.specs.Grammar
+pub use Rattle.planner.specs.Plans
+pub use Rattle.planner.specs.Routes
+pub use Rattle.planner.specs.declared.routes.Route
+pub use Rattle.planner.specs.Right
+pub use Rattle.planner.specs.declared.plans.Plan

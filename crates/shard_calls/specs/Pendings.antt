@@ -9,19 +9,19 @@ use Rattle.vschema.specs.declared.changes.RowChange.{RowChange}
 use Rattle.vschema.specs.Database.{all_applied}
 use Rattle.vschema.specs.Sources.{source_tables, SourcesThere, JoinsInPlace}
 use Rattle.vschema.specs.TypedWrites.{IsTypedWrite}
-use Rattle.sql_eval.specs.Queries.{Allowed}
-use Rattle.sql_eval.specs.Writes.{written_table}
+use Rattle.shard.specs.Queries.{Allowed}
+use Rattle.shard.specs.Writes.{written_table}
 use Rattle.journal.specs.Runs.{IsLegal, by_session}
 use Rattle.journal.specs.Views.{PassView}
-use Rattle.shard_run.specs.declared.Mode.TheVariants.{Serving}
-use Rattle.shard_run.specs.declared.ShardRecord.{ShardRecord}
-use Rattle.shard_run.specs.declared.Entry.{Entry}
-use Rattle.shard_run.specs.Runs.{Run, Opening, database, shard_rows, mode, stored_on}
-use Rattle.shard_law.specs.Legal.{IsOnItsSlot, IsChangeOf}
+use Rattle.shard.specs.Mode.TheVariants.{Serving}
+use Rattle.shard.specs.ShardRecord.{ShardRecord}
+use Rattle.shard.specs.Entry.{Entry}
+use Rattle.shard.specs.Runs.{Run, Opening, database, shard_rows, mode, stored_on}
+use Rattle.shard.specs.Legal.{IsOnItsSlot, IsChangeOf}
 use Rattle.serving.specs.Partitions.{Seat, IsPartition}
-use Rattle.shard_contents.specs.declared.touched_table.Touch.{Touch}
-use Rattle.shard_law.specs.Entries.{MayFollow, commit_of}
-use Rattle.shard_contents.specs.Transactions.{PendingView, nothing_done, is_touched, IsPending}
+use Rattle.shard.specs.Touch.{Touch}
+use Rattle.shard.specs.Entries.{MayFollow, commit_of}
+use Rattle.shard.specs.Transactions.{PendingView, nothing_done, is_touched, IsPending}
 use Rattle.shard_calls.specs.declared.reply.Selected.{Selected}
 use Rattle.shard_calls.specs.declared.reply.Answer.TheVariants.{Rows, Count}
 use Rattle.shard.specs.Seats.{seat_of}

@@ -15,22 +15,22 @@ use Rattle.vschema.specs.declared.changes.RowChange.{RowChange}
 use Rattle.vschema.specs.Database.{Database, all_applied}
 use Rattle.vschema.specs.Sources.{source_tables}
 use Rattle.vschema.specs.TypedStatement.{typed_statement}
-use Rattle.sql_eval.specs.Writes.{written_table, changes_of}
+use Rattle.shard.specs.Writes.{written_table, changes_of}
 use Rattle.planner.specs.Routes.{table_at, route_of}
 use Rattle.journal.specs.Runs.{IsLegal, by_session}
 use Rattle.journal.specs.Views.{PassView}
-use Rattle.shard_run.specs.declared.ShardRecord.{ShardRecord}
-use Rattle.shard_run.specs.declared.Commit as C
-use Rattle.shard_run.specs.declared.Mode.TheVariants.{Serving}
-use Rattle.shard_run.specs.declared.Event.TheVariants.{Commit}
-use Rattle.shard_run.specs.declared.Entry.{Entry}
-use Rattle.shard_run.specs.Runs.{Run, Opening, database, shard_rows, mode, entries_on}
-use Rattle.shard_law.specs.Legal.{AreChangesOf}
+use Rattle.shard.specs.ShardRecord.{ShardRecord}
+use Rattle.shard.specs.Commit as C
+use Rattle.shard.specs.Mode.TheVariants.{Serving}
+use Rattle.shard.specs.Event.TheVariants.{Commit}
+use Rattle.shard.specs.Entry.{Entry}
+use Rattle.shard.specs.Runs.{Run, Opening, database, shard_rows, mode, entries_on}
+use Rattle.shard.specs.Legal.{AreChangesOf}
 use Rattle.serving.specs.Partitions.{Seat, IsPartition}
-use Rattle.shard_law.specs.declared.limits.Limits.{Limits}
-use Rattle.shard_law.specs.Entries.{MayFollow, HasLooked, commit_of}
-use Rattle.shard_contents.specs.Commits.{HasRoom}
-use Rattle.shard_contents.specs.Transactions.{changes_table, entry_of}
+use Rattle.shard.specs.Limits.{Limits}
+use Rattle.shard.specs.Entries.{MayFollow, HasLooked, commit_of}
+use Rattle.shard.specs.Commits.{HasRoom}
+use Rattle.shard.specs.Transactions.{changes_table, entry_of}
 use Rattle.shard_calls.specs.declared.reply.Answer.{Answer}
 use Rattle.shard_calls.specs.declared.reply.Answer.TheVariants.{Count}
 use Rattle.shard_calls.specs.declared.reply.ShardRead.{ShardRead}

@@ -2,7 +2,7 @@
 ghost use Rattle.std.specs.Prelude.{◌≡◌, ◌≤◌, ◌∷◌, [], IfOk, IfErr, MatchOption, length};
 ghost use Rattle.std.specs.List.{AllByRecursion};
 ghost use Rattle.journal.specs.Runs.{IsLegal};
-ghost use Rattle.shard_law.specs.Entries.{MayFollow};
+ghost use Rattle.shard.specs.Entries.{MayFollow};
 ghost use Rattle.shard_calls.specs.Answers.{needed, HasGone, WasFound};
 
 use journal::Naming;

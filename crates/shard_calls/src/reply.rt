@@ -1,7 +1,7 @@
 //! What a statement answered.
 ghost use Rattle.std.specs.Prelude.{◌≡◌, []};
 
-use operators::ShownRows;
+use planner::ShownRows;
 use sql_tree::Item;
 use std::alloc::Global;
 use vschema::{Join, Write};

@@ -1,22 +1,21 @@
 //! What a statement of an open transaction does on its one shard.
 ghost use Rattle.std.specs.Prelude.{◌≡◌, ◌<◌, [], ◌∷◌, ℕ, Some, IsSome, IfOk, IfErr, OnErr, OnOk, Ok, length};
 ghost use Rattle.vschema.specs.Sources.{SourcesThere};
-ghost use Rattle.sql_eval.specs.Queries.{IsAnswer};
-ghost use Rattle.sql_eval.specs.Narrowing.{ShowsAt};
-ghost use Rattle.sql_eval.specs.Writes.{written_table};
+ghost use Rattle.shard.specs.Queries.{IsAnswer};
+ghost use Rattle.shard.specs.Narrowing.{ShowsAt};
+ghost use Rattle.shard.specs.Writes.{written_table};
 ghost use Rattle.journal.specs.Runs.{NumbersBelow};
-ghost use Rattle.shard_run.specs.declared.ShardRecord as which;
-ghost use Rattle.shard_law.specs.Entries.{commit_of};
-ghost use Rattle.shard_contents.specs.Transactions.{IsPendingOf};
+ghost use Rattle.shard.specs.ShardRecord as which;
+ghost use Rattle.shard.specs.Entries.{commit_of};
+ghost use Rattle.shard.specs.Transactions.{IsPendingOf};
 ghost use Rattle.shard_calls.specs.Pendings.{bound_of};
 ghost use Rattle.shard_calls.specs.inner.InTransactions.{ends, closes, stays_open, HasReadAt, IsNotReadAt, HasWrittenAt, IsNotWrittenAt, HasCommittedAt, IsNotCommittedAt};
 
 use crate::reply::{Reply, ShardRead};
 use crate::tx::{Bound, OpenTx};
 use journal::Naming;
-use operators::ShownRows;
-use shard::{Pending, Reading, ShardPass, World};
-use sql_eval::{Narrowed, select_local};
+use planner::ShownRows;
+use shard::{Narrowed, Pending, Reading, ShardPass, World, select_local};
 use std::alloc::{AllocError, Global};
 use std::sync::Wait;
 use vschema::{Typed, VSchema, Write};

@@ -109,10 +109,18 @@ impl<W: World, J: Naming> Bound<W, J> {
 
 /// A session's open transaction: the shard that it is bound to, once it has used one, and what it has done there. Contracts see an
 /// `OpenView`.
-#[derive(Drop)]
 pub struct OpenTx<W: World, J: Naming> {
     pub bound: Option<Bound<W, J>>,
     pub pending: Pending,
+}
+
+impl<W: World, J: Naming> Drop for OpenTx<W, J> {
+    // Who drops one calls this, and need not know what it owns.
+    fn drop(self) {
+        let OpenTx { bound, pending } = self;
+        drop(bound);
+        drop(pending);
+    }
 }
 
 impl<W: World, J: Naming> Model for OpenTx<W, J> {
@@ -129,9 +137,16 @@ impl<W: World, J: Naming> Model for OpenTx<W, J> {
 
 /// The transaction of a session, which takes part in each of its pass's statements: none, or an open one. Contracts see what the open one
 /// keeps.
-#[derive(Drop)]
 pub struct Tx<W: World, J: Naming> {
     pub open: Option<OpenTx<W, J>>,
+}
+
+impl<W: World, J: Naming> Drop for Tx<W, J> {
+    // Who drops one calls this, and need not know what it owns.
+    fn drop(self) {
+        let Tx { open } = self;
+        drop(open);
+    }
 }
 
 impl<W: World, J: Naming> Model for Tx<W, J> {

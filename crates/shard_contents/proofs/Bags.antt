@@ -7,8 +7,8 @@ use Rattle.std.proofs.lemmas.List.Sums.{sum_by-cons}
 use Rattle.vt_value.specs.Values.{Row}
 use Rattle.vschema.specs.declared.changes.RowChange.{RowChange}
 use Rattle.vschema.specs.Database.{Database, SameRows, rows_of, all_applied}
-use Rattle.shard_run.specs.Openings.{row_count}
-use Rattle.sql_eval.proofs.ChangeLemmas.{rows-same}
+use Rattle.shard_law.specs.Openings.{row_count}
+use Rattle.shard_store.proofs.ChangeLemmas.{rows-same}
 use Rattle.shard_law.proofs.Counts.{count-all_applied, count-permuted, tally, same_by_count}
 use Rattle.shard_law.proofs.Databases.{length-all_applied}
 

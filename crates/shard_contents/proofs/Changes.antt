@@ -14,9 +14,9 @@ use Rattle.vschema.specs.declared.changes.RowChange.{RowChange}
 use Rattle.vschema.specs.declared.changes.RowChange.TheVariants.{Added, Replaced, Removed}
 use Rattle.vschema.specs.Schema.{no_table}
 use Rattle.vschema.specs.Database.{Database, rows_of, same_row, changed_table}
-use Rattle.sql_eval.specs.Conditions.{is_kept}
-use Rattle.sql_eval.specs.Writes.{has_duplicate, assigned, row_updates, written_table, changes_over, changes_of}
-use Rattle.sql_eval.proofs.ChangeLemmas.{ok_is}
+use Rattle.shard_store.specs.Conditions.{is_kept}
+use Rattle.shard_store.specs.Writes.{has_duplicate, assigned, row_updates, written_table, changes_over, changes_of}
+use Rattle.shard_store.proofs.ChangeLemmas.{ok_is}
 use Rattle.shard_law.proofs.Lists.{all-flat_map, all-each}
 use Rattle.shard_law.specs.declared.limits.Limits.{Limits}
 use Rattle.shard_contents.specs.inner.Commits.{has_room, IsUnprepared, no_memory, duplicate, full}
@@ -54,7 +54,7 @@ module _ (schema : VSchema) (limits : Limits) (entries stored : ℕ) (db : Datab
       subst (IsUnprepared schema limits entries stored db w) (sym key) (duplicate (over ∙ is ∙ ap Err key))
 
   pub no_room : (changes : List RowChange) → changes_over t w rows ≡ Ok changes → has_room limits entries stored
-      (Rattle.shard_run.specs.Openings.row_count db) w ≡ false → IsUnprepared schema limits entries stored db w ShardFull
+      (Rattle.shard_law.specs.Openings.row_count db) w ≡ false → IsUnprepared schema limits entries stored db w ShardFull
   no_room changes is h = full changes (over ∙ is) h
 
   pub changed : (changes : List RowChange) → changes_over t w rows ≡ Ok changes → changes_of schema w db ≡ Ok changes

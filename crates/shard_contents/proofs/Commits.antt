@@ -14,18 +14,18 @@ use Rattle.vschema.specs.declared.changes.RowChange.{RowChange}
 use Rattle.vschema.specs.Schema.{no_table}
 use Rattle.vschema.specs.Database.{Database, SameRows, rows_of, restrict, applied, all_applied}
 use Rattle.vschema.specs.TypedWrites.{IsTypedWrite}
-use Rattle.sql_eval.specs.Writes.{written_table, changes_of, change}
-use Rattle.sql_eval.proofs.ChangeLemmas.{SameChanges, same_changes, rows-same}
-use Rattle.journal.specs.Runs.{IsLegal, NumbersBelow, by_session, number_of}
-use Rattle.journal.specs.Views.{SeatView, PassView}
-use Rattle.shard_run.specs.declared.ShardRecord.{ShardRecord}
-use Rattle.shard_run.specs.declared.Mode.TheVariants.{Serving}
-use Rattle.shard_run.specs.declared.Event.{Event}
-use Rattle.shard_run.specs.declared.Event.TheVariants.{Commit, Follow, Copy, Freeze, Thaw, Retire, Serve}
-use Rattle.shard_run.specs.declared.Entry.{Entry}
-use Rattle.shard_run.specs.Runs.{Run, Opening, database, shard_rows, mode, answers_queries, first_rows, entries_on, stored_on, is_on, is_stored}
+use Rattle.shard_store.specs.Writes.{written_table, changes_of, change}
+use Rattle.shard_store.proofs.ChangeLemmas.{SameChanges, same_changes, rows-same}
+use Rattle.shard_law.specs.Runs.{IsLegal, NumbersBelow, by_session, number_of}
+use Rattle.shard_law.specs.Views.{SeatView, PassView}
+use Rattle.shard_law.specs.ShardRecord.{ShardRecord}
+use Rattle.shard_law.specs.Mode.TheVariants.{Serving}
+use Rattle.shard_law.specs.Event.{Event}
+use Rattle.shard_law.specs.Event.TheVariants.{Commit, Follow, Copy, Freeze, Thaw, Retire, Serve}
+use Rattle.shard_law.specs.Entry.{Entry}
+use Rattle.shard_law.specs.ShardRunRuns.{Run, Opening, database, shard_rows, mode, answers_queries, first_rows, entries_on, stored_on, is_on, is_stored}
 use Rattle.shard_law.specs.Legal.{is_late, IsOnItsSlot}
-use Rattle.shard_run.specs.Openings.{row_count}
+use Rattle.shard_law.specs.Openings.{row_count}
 use Rattle.shard_law.proofs.Databases.{length-all_applied}
 use Rattle.shard_law.proofs.Runs.{log, log-on, mode-on}
 use Rattle.shard_law.proofs.Typed.{keeps_keys-from_typed, table_there}

@@ -17,21 +17,21 @@ use Rattle.vschema.specs.declared.changes.RowChange.TheVariants.{Added}
 use Rattle.vschema.specs.Schema.{key_of, no_table}
 use Rattle.vschema.specs.Database.{Database, SameRows, rows_of, same_row, lies_in, all_applied, changed_table}
 use Rattle.vschema.specs.WellFormed.{is_vschema}
-use Rattle.sql_eval.proofs.ChangeLemmas.{rows-same}
-use Rattle.sql_eval.proofs.Permutations.{IsPermutation-filter}
-use Rattle.journal.specs.Runs.{on_slot}
-use Rattle.journal.specs.Views.{SeatView, PassView, IsLater}
-use Rattle.journal.proofs.Fronts.{prefix_trans}
-use Rattle.shard_run.specs.declared.ShardRecord.{ShardRecord}
-use Rattle.shard_run.specs.declared.Mode.TheVariants.{Following}
-use Rattle.shard_run.specs.declared.Copied as C
-use Rattle.shard_run.specs.declared.Event.{Event}
-use Rattle.shard_run.specs.declared.Event.TheVariants.{Commit, Follow, Copy, Freeze, Thaw, Retire, Serve}
-use Rattle.shard_run.specs.declared.Entry.{Entry}
-use Rattle.shard_run.specs.Runs.{Run, Opening, shard_rows, first_rows, mode, answers_queries, is_on, is_stored, stored_on, stored_changes, entries_on}
-use Rattle.shard_run.specs.Copies.{position, is_key_before, table_at, is_last, has_copied_all, is_copied, is_copy_that, reaches}
+use Rattle.shard_store.proofs.ChangeLemmas.{rows-same}
+use Rattle.shard_store.proofs.Permutations.{IsPermutation-filter}
+use Rattle.shard_law.specs.Runs.{on_slot}
+use Rattle.shard_law.specs.Views.{SeatView, PassView, IsLater}
+use Rattle.shard_law.proofs.Fronts.{prefix_trans}
+use Rattle.shard_law.specs.ShardRecord.{ShardRecord}
+use Rattle.shard_law.specs.Mode.TheVariants.{Following}
+use Rattle.shard_law.specs.Copied as C
+use Rattle.shard_law.specs.Event.{Event}
+use Rattle.shard_law.specs.Event.TheVariants.{Commit, Follow, Copy, Freeze, Thaw, Retire, Serve}
+use Rattle.shard_law.specs.Entry.{Entry}
+use Rattle.shard_law.specs.ShardRunRuns.{Run, Opening, shard_rows, first_rows, mode, answers_queries, is_on, is_stored, stored_on, stored_changes, entries_on}
+use Rattle.shard_law.specs.Copies.{position, is_key_before, table_at, is_last, has_copied_all, is_copied, is_copy_that, reaches}
 use Rattle.shard_law.specs.Legal.{Legal, MayCopy, Had, IsOnItsSlot, is_left}
-use Rattle.shard_run.specs.Openings.{IsOpening, row_count}
+use Rattle.shard_law.specs.Openings.{IsOpening, row_count}
 use Rattle.shard_law.specs.Law.{copied_by, rows_copied}
 use Rattle.shard_law.proofs.Databases.{length-all_applied}
 use Rattle.shard_law.proofs.Keys.{filter-permuted}
@@ -208,7 +208,7 @@ dropped_next p xs i x there is fails =
 
 -- what a state still has of its stored entries
 pub entry_told : (o : Opening) (most : Limits) (seen : Run) (c : Contents) (v : ShardView) → Keeps o most seen c → record { seen = seen; shard = c.shard } ≡ v
-    → (mode o v.seen v.shard.slot ≡ Rattle.shard_run.specs.declared.Mode.TheVariants.Retired → ⊥) → (at : ℕ) (changes : List RowChange)
+    → (mode o v.seen v.shard.slot ≡ Rattle.shard_law.specs.Mode.TheVariants.Retired → ⊥) → (at : ℕ) (changes : List RowChange)
     → (c.stored.log.first ≤ at) × (slice_get c.stored.log.kept (at - c.stored.log.first) ≡ Some changes)
     → (e : Entry) × (slice_get (stored_on v.shard.slot v.seen) at ≡ Some e) × (kept_of e ≡ changes)
 entry_told o most seen c v keeps view lives at changes (from, is) =

@@ -20,15 +20,15 @@ use Rattle.vschema.specs.declared.changes.RowChange.TheVariants.{Added, Replaced
 use Rattle.vschema.specs.declared.schema.VSchema.{VSchema}
 use Rattle.vschema.specs.Schema.{no_table}
 use Rattle.vschema.specs.Database.{Database, SameRows, same_row, without, applied, all_applied, changed_table}
-use Rattle.sql_eval.specs.Conditions.{is_kept}
-use Rattle.sql_eval.specs.Writes.{has_duplicate, assigned, row_updates, written_table, changes_over, changes_of}
-use Rattle.sql_eval.proofs.ChangeLemmas.{ok_is}
+use Rattle.shard_store.specs.Conditions.{is_kept}
+use Rattle.shard_store.specs.Writes.{has_duplicate, assigned, row_updates, written_table, changes_over, changes_of}
+use Rattle.shard_store.proofs.ChangeLemmas.{ok_is}
 use Rattle.shard_law.proofs.Rows.{row_is, nil_is}
 use Rattle.shard_law.proofs.Lists.{AllByRecursion-push}
 use Rattle.vt_value.specs.declared.refusal.Refusal.TheVariants.{DuplicateKey}
-use Rattle.shard_run.specs.declared.ShardRecord.{ShardRecord}
-use Rattle.shard_run.specs.Runs.{Opening, Run, shard_rows, entries_on, stored_on}
-use Rattle.shard_run.specs.Openings.{row_count}
+use Rattle.shard_law.specs.ShardRecord.{ShardRecord}
+use Rattle.shard_law.specs.ShardRunRuns.{Opening, Run, shard_rows, entries_on, stored_on}
+use Rattle.shard_law.specs.Openings.{row_count}
 use Rattle.shard_law.specs.declared.limits.Limits.{Limits}
 use Rattle.shard_contents.specs.Commits.{inserted_rows, HasRoom}
 use Rattle.shard_contents.specs.inner.Commits.{has_room}

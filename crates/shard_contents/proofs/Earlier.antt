@@ -5,8 +5,8 @@ use Rattle.std.proofs.lemmas.Bool.{eq-eqb, ne_eqb}
 use Rattle.std.proofs.lemmas.Grind.{flat_map-append}
 use Rattle.std.proofs.lemmas.List.{append-nil, take_more, drop-append-le, drop_all}
 use Rattle.std.proofs.lemmas.List.Sorted.{IsPermutation-trans, IsPermutation-append_left}
-use Rattle.sql_eval.proofs.ChangeLemmas.{rows-same}
-use Rattle.sql_eval.proofs.Permutations.{IsPermutation-filter}
+use Rattle.shard_store.proofs.ChangeLemmas.{rows-same}
+use Rattle.shard_store.proofs.Permutations.{IsPermutation-filter}
 use Rattle.vt_value.specs.Values.{Row}
 use Rattle.vschema.specs.declared.schema.Table.{Table}
 use Rattle.vschema.specs.declared.changes.RowChange.{RowChange}

@@ -7,19 +7,19 @@ use Rattle.std.proofs.lemmas.Bool.{eq-eqb, false≢true}
 use mathlib.Core.List.{IsPrefix}
 use Rattle.vschema.specs.declared.changes.RowChange.{RowChange}
 use Rattle.vschema.specs.Database.{SameRows, restricted_changes, all_applied, changed_table}
-use Rattle.journal.specs.Runs.{IsLegal, on_slot, by_session}
-use Rattle.journal.specs.Views.{SeatView, PassView, IsLater}
-use Rattle.journal.proofs.Fronts.{prefix_trans, prefix_self}
-use Rattle.shard_run.specs.declared.ShardRecord.{ShardRecord}
-use Rattle.shard_run.specs.declared.Mode.TheVariants.{Following}
-use Rattle.shard_run.specs.declared.Follow as F
-use Rattle.shard_run.specs.declared.Entry.{Entry}
-use Rattle.shard_run.specs.declared.Event.TheVariants.{Follow}
-use Rattle.shard_run.specs.Runs.{Run, Opening, shard_rows, first_rows, mode, answers_queries, is_on, is_stored, stored_on, stored_changes, entries_on}
+use Rattle.shard_law.specs.Runs.{IsLegal, on_slot, by_session}
+use Rattle.shard_law.specs.Views.{SeatView, PassView, IsLater}
+use Rattle.shard_law.proofs.Fronts.{prefix_trans, prefix_self}
+use Rattle.shard_law.specs.ShardRecord.{ShardRecord}
+use Rattle.shard_law.specs.Mode.TheVariants.{Following}
+use Rattle.shard_law.specs.Follow as F
+use Rattle.shard_law.specs.Entry.{Entry}
+use Rattle.shard_law.specs.Event.TheVariants.{Follow}
+use Rattle.shard_law.specs.ShardRunRuns.{Run, Opening, shard_rows, first_rows, mode, answers_queries, is_on, is_stored, stored_on, stored_changes, entries_on}
 use Rattle.shard_law.specs.Legal.{Legal, MayFollowSource, IsOnItsSlot}
-use Rattle.shard_run.specs.Copies.{position, change_is_copied}
+use Rattle.shard_law.specs.Copies.{position, change_is_copied}
 use Rattle.shard_contents.proofs.Positions.{position-same, copied-same}
-use Rattle.shard_run.specs.Openings.{IsOpening, row_count}
+use Rattle.shard_law.specs.Openings.{IsOpening, row_count}
 use Rattle.shard_law.proofs.Law.{slots}
 use Rattle.shard_law.proofs.Databases.{length-all_applied}
 use Rattle.shard_law.proofs.Runs.{log, log-on, mode-on, stored_on-push}

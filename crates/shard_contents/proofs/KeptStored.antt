@@ -4,8 +4,8 @@ use Rattle.std.specs.Prelude.{slice_get}
 use Rattle.std.specs.List.{list_any}
 use Rattle.std.proofs.lemmas.List.{length-map, map-append}
 use Rattle.vschema.specs.declared.changes.RowChange.{RowChange}
-use Rattle.shard_run.specs.declared.Entry.{Entry}
-use Rattle.shard_run.specs.Runs.{Run, stored_on, is_on, is_stored}
+use Rattle.shard_law.specs.Entry.{Entry}
+use Rattle.shard_law.specs.ShardRunRuns.{Run, stored_on, is_on, is_stored}
 use Rattle.shard_law.proofs.Runs.{stored_on-push}
 use Rattle.shard_contents.specs.declared.touched_table.Touch.{Touch}
 use Rattle.shard_contents.specs.Transactions.{changes_table, is_changed, is_conflict}

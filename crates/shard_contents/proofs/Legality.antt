@@ -3,15 +3,15 @@ use Rattle.std.proofs.Common.{◌≡◌, true, [], ◌∷◌, ◌++◌, length, 
 use Rattle.std.specs.Prelude.{Contains}
 use Rattle.std.proofs.lemmas.Bool.{false≢true, eq-eqb}
 use Rattle.vschema.specs.Database.{Database, SameRows, restrict}
-use Rattle.journal.specs.Runs.{LegalAfter, IsLegal}
-use Rattle.shard_run.specs.declared.ShardRecord.{ShardRecord}
-use Rattle.shard_run.specs.declared.Mode.{Mode}
-use Rattle.shard_run.specs.declared.Mode.TheVariants.{Following}
-use Rattle.shard_run.specs.declared.Event.{Event}
-use Rattle.shard_run.specs.declared.Entry.{Entry}
-use Rattle.shard_run.specs.Runs.{Run, Opening, database, shard_rows, first_rows, mode, answers_queries, is_opening, is_on, entries_on, IsShardOf}
+use Rattle.shard_law.specs.Runs.{LegalAfter, IsLegal}
+use Rattle.shard_law.specs.ShardRecord.{ShardRecord}
+use Rattle.shard_law.specs.Mode.{Mode}
+use Rattle.shard_law.specs.Mode.TheVariants.{Following}
+use Rattle.shard_law.specs.Event.{Event}
+use Rattle.shard_law.specs.Entry.{Entry}
+use Rattle.shard_law.specs.ShardRunRuns.{Run, Opening, database, shard_rows, first_rows, mode, answers_queries, is_opening, is_on, entries_on, IsShardOf}
 use Rattle.shard_law.specs.Legal.{Legal, LegalFrom, IsOnItsSlot}
-use Rattle.shard_run.specs.Openings.{IsOpening, OpensWith}
+use Rattle.shard_law.specs.Openings.{IsOpening, OpensWith}
 use Rattle.shard_law.proofs.Databases.{length-all_applied}
 use Rattle.shard_law.proofs.First.{long, first_rows_are}
 use Rattle.shard_law.specs.Law.{Serves}

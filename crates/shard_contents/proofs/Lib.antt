@@ -25,3 +25,28 @@ pub mod OneTable
 pub mod Wanted
 pub mod SourceRows
 pub mod Earlier
+pub use Rattle.shard_store.proofs.stored.StoredTables.TheSendSync as StoredtablesTheSendSync
+pub use Rattle.shard_law.proofs.Lists
+pub use Rattle.shard_law.proofs.Law
+pub use Rattle.shard_law.proofs.Runs
+pub use Rattle.shard_law.proofs.SameAnswers
+pub use Rattle.shard_law.proofs.Typed
+pub use Rattle.shard_law.proofs.Since
+pub use Rattle.shard_law.proofs.ChangeLemmas
+pub use Rattle.shard_law.proofs.Databases
+pub use Rattle.shard_law.proofs.Rows
+pub use Rattle.shard_law.proofs.Keeps
+pub use Rattle.shard_law.proofs.AtOneId
+pub use Rattle.shard_law.proofs.Has
+pub use Rattle.shard_law.proofs.Holds
+pub use Rattle.shard_law.proofs.Copying as ShardLawCopying
+pub use Rattle.shard_law.proofs.Stands
+pub use Rattle.shard_law.proofs.Counts as ShardLawCounts
+pub use Rattle.shard_law.proofs.Pairs
+pub use Rattle.shard_law.proofs.Storable
+pub use Rattle.shard_law.proofs.Sums
+pub use Rattle.shard_law.proofs.Edges
+pub use Rattle.shard_law.proofs.NarrowLemmas
+pub use Rattle.shard_law.proofs.Permutations
+pub use Rattle.shard_law.proofs.GroupLemmas
+pub use Rattle.shard_law.proofs.Fitting

@@ -2,13 +2,13 @@
 use Rattle.std.proofs.Common.{◌≡◌, ℕ, Bool, true, false, cond, List, [], ◌∷◌, ◌++◌, length, refl, sym, ap, ◌∙◌, subst}
 use Rattle.std.specs.List.{filter}
 use mathlib.Core.List.{IsPrefix}
-use Rattle.journal.specs.Runs.{IsLegal, by_session}
-use Rattle.journal.specs.Views.{SeatView, PassView, IsLater}
-use Rattle.shard_run.specs.declared.ShardRecord.{ShardRecord}
-use Rattle.shard_run.specs.declared.Mode.{Mode}
-use Rattle.shard_run.specs.declared.Mode.TheVariants.{Following, Serving, Frozen, Retired, Dropped}
-use Rattle.shard_run.specs.declared.Entry.{Entry}
-use Rattle.shard_run.specs.Runs.{Run, Opening, mode, answers_queries, is_opening, stored_on}
+use Rattle.shard_law.specs.Runs.{IsLegal, by_session}
+use Rattle.shard_law.specs.Views.{SeatView, PassView, IsLater}
+use Rattle.shard_law.specs.ShardRecord.{ShardRecord}
+use Rattle.shard_law.specs.Mode.{Mode}
+use Rattle.shard_law.specs.Mode.TheVariants.{Following, Serving, Frozen, Retired, Dropped}
+use Rattle.shard_law.specs.Entry.{Entry}
+use Rattle.shard_law.specs.ShardRunRuns.{Run, Opening, mode, answers_queries, is_opening, stored_on}
 use Rattle.shard_law.specs.declared.limits.Limits.{Limits}
 use Rattle.shard_contents.specs.declared.contents.Contents.{Contents}
 use Rattle.shard_law.specs.Entries.{slot_of, commit_of, MayFollow, HasLooked, ShardView}

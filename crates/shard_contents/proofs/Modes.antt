@@ -6,17 +6,17 @@ use mathlib.Core.List.{IsPrefix}
 use Rattle.vschema.specs.declared.changes.RowChange.{RowChange}
 use Rattle.vschema.specs.declared.schema.Place.{Place}
 use Rattle.vschema.specs.Database.{Database, SameRows, all_applied}
-use Rattle.journal.specs.Runs.{on_slot}
-use Rattle.journal.specs.Views.{SeatView}
-use Rattle.shard_run.specs.declared.ShardRecord.{ShardRecord}
-use Rattle.shard_run.specs.declared.Mode.{Mode}
-use Rattle.shard_run.specs.declared.Mode.TheVariants.{Following, Serving, Frozen, Retired}
-use Rattle.shard_run.specs.declared.Event.{Event}
-use Rattle.shard_run.specs.declared.Event.TheVariants.{Commit, Follow, Copy, Freeze, Thaw, Retire, Serve}
-use Rattle.shard_run.specs.declared.Entry.{Entry}
-use Rattle.shard_run.specs.Runs.{Run, Opening, shard_rows, first_rows, mode, mode_after, answers_queries, is_on, is_stored, held_changes, stored_on, entries_on}
+use Rattle.shard_law.specs.Runs.{on_slot}
+use Rattle.shard_law.specs.Views.{SeatView}
+use Rattle.shard_law.specs.ShardRecord.{ShardRecord}
+use Rattle.shard_law.specs.Mode.{Mode}
+use Rattle.shard_law.specs.Mode.TheVariants.{Following, Serving, Frozen, Retired}
+use Rattle.shard_law.specs.Event.{Event}
+use Rattle.shard_law.specs.Event.TheVariants.{Commit, Follow, Copy, Freeze, Thaw, Retire, Serve}
+use Rattle.shard_law.specs.Entry.{Entry}
+use Rattle.shard_law.specs.ShardRunRuns.{Run, Opening, shard_rows, first_rows, mode, mode_after, answers_queries, is_on, is_stored, held_changes, stored_on, entries_on}
 use Rattle.shard_law.specs.Legal.{LegalFrom, Legal, MayRetire, MayServe, IsOnItsSlot, IsRetiredFor, IsTableOf}
-use Rattle.shard_run.specs.Openings.{IsOpening, row_count}
+use Rattle.shard_law.specs.Openings.{IsOpening, row_count}
 use Rattle.shard_law.proofs.Lists.{In, In-from_Contains, In-all, all-from_In, zip-left}
 use Rattle.shard_law.proofs.Runs.{log, log-on, mode-on, mode-off, stored_on-push, not_retired}
 use Rattle.shard_law.proofs.Law.{slots, slots_from}
@@ -25,7 +25,7 @@ use Rattle.shard_contents.specs.declared.contents.Contents.{Contents}
 use Rattle.shard_law.specs.Entries.{slot_of, commit_in}
 use Rattle.shard_contents.specs.Shards.{beyond, Holds, holds, IsAfter}
 use Rattle.shard_contents.specs.inner.Shards.{is_plain}
-use Rattle.shard_run.specs.Copies.{position, has_copied_all}
+use Rattle.shard_law.specs.Copies.{position, has_copied_all}
 use Rattle.shard_contents.proofs.Positions.{position-same, copied_all-same}
 use Rattle.shard_contents.proofs.Legality.{stands-same, stands-next}
 use Rattle.shard_contents.specs.declared.target_steps.TargetStep.{TargetStep}
@@ -74,7 +74,7 @@ beyond_one m = by m
     by Serving = omega arith
     by Frozen = omega arith
     by Retired = omega arith
-    by Rattle.shard_run.specs.declared.Mode.TheVariants.Dropped = omega arith
+    by Rattle.shard_law.specs.Mode.TheVariants.Dropped = omega arith
 
 module _ (o : Opening) (most : Limits) (seat : SeatView Entry) (c : Contents) (is : IsAfter o most seat c) where
   abbrev s : ShardRecord

@@ -5,7 +5,7 @@ use Rattle.std.proofs.lemmas.Bool.{and_from}
 use Rattle.std.proofs.lemmas.List.Elements.{All-from_recursion, recursion_from_All}
 use Rattle.std.proofs.lemmas.List.Folds.{list_all-map}
 use Rattle.std.proofs.lemmas.List.Sorted.{All-permutation, IsPermutation-sym}
-use Rattle.keyrange.specs.Ranges.{has_id}
+use Rattle.vschema.specs.Ranges.{has_id}
 use Rattle.vt_value.specs.Values.{Row}
 use Rattle.vt_value.specs.declared.refusal.Refusal.TheVariants.{DuplicateKey}
 use Rattle.sql_tree.specs.declared.Assignment.{Assignment}
@@ -19,9 +19,9 @@ use Rattle.vschema.specs.declared.changes.RowChange.{RowChange}
 use Rattle.vschema.specs.declared.changes.RowChange.TheVariants.{Added, Replaced, Removed}
 use Rattle.vschema.specs.Schema.{no_table}
 use Rattle.vschema.specs.Database.{Database, SameRows, rows_of, restrict, restricted, lies_in, change_lies_in, same_row}
-use Rattle.sql_eval.specs.Conditions.{is_kept}
-use Rattle.sql_eval.specs.Writes.{has_duplicate, assigned, row_updates, written_table, changes_of}
-use Rattle.sql_eval.proofs.ChangeLemmas.{ok_is, rows-same}
+use Rattle.shard_store.specs.Conditions.{is_kept}
+use Rattle.shard_store.specs.Writes.{has_duplicate, assigned, row_updates, written_table, changes_of}
+use Rattle.shard_store.proofs.ChangeLemmas.{ok_is, rows-same}
 use Rattle.shard_law.proofs.Keeps.{id_kept}
 use Rattle.shard_law.proofs.Typed.{keeps_keys}
 use Rattle.shard_law.proofs.Lists.{all-filter, all-flat_map, all-weaker, all-passed}

@@ -2,12 +2,12 @@
 use Rattle.std.proofs.Common.{◌≡◌, ℕ, zero, suc, ◌+◌, ◌≤◌, length, take, arith, Bool, true, false, ◌&&◌, ◌||◌, ◌==◌, List, [], ◌∷◌, ◌++◌, Option, Some, None, refl, sym, ap, ◌∙◌, flat_map, inl, inr}
 use Rattle.std.specs.Prelude.{if◌then◌else◌}
 use Rattle.std.specs.List.{list_any}
-use Rattle.shard_run.specs.declared.Event.{Event}
-use Rattle.shard_run.specs.declared.Event.TheVariants.{Commit, Follow, Copy, Freeze, Thaw, Retire, Serve}
-use Rattle.shard_run.specs.declared.Entry.{Entry}
-use Rattle.shard_run.specs.declared.Mode.TheVariants.{Retired}
-use Rattle.shard_run.specs.Runs.{Run, Opening, mode, is_on, entries_on}
-use Rattle.shard_run.specs.Copies.{position, position_from, has_copied_all, is_copy_that, is_last}
+use Rattle.shard_law.specs.Event.{Event}
+use Rattle.shard_law.specs.Event.TheVariants.{Commit, Follow, Copy, Freeze, Thaw, Retire, Serve}
+use Rattle.shard_law.specs.Entry.{Entry}
+use Rattle.shard_law.specs.Mode.TheVariants.{Retired}
+use Rattle.shard_law.specs.ShardRunRuns.{Run, Opening, mode, is_on, entries_on}
+use Rattle.shard_law.specs.Copies.{position, position_from, has_copied_all, is_copy_that, is_last}
 use Rattle.shard_law.proofs.Lists.{flat_map-push}
 use Rattle.shard_contents.specs.declared.target_steps.TargetStep.{TargetStep}
 use Rattle.shard_contents.specs.declared.target_steps.TargetStep.TheVariants.{Followed, Copied}

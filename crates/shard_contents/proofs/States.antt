@@ -2,20 +2,20 @@
 use Rattle.std.proofs.Common.{◌≡◌, ℕ, Bool, true, false, ◌&&◌, List, [], ◌∷◌, ◌++◌, map, sym, ap, subst, ◌∙◌, refl, if◌then◌else◌, arith}
 use Rattle.std.specs.Prelude.{flat_map, filter, length, ◌+◌, ◌≤◌, ◌^◌, Contains}
 use Rattle.std.proofs.lemmas.Bool.{false≢true}
-use Rattle.shard_run.specs.Openings.{row_count}
+use Rattle.shard_law.specs.Openings.{row_count}
 use Rattle.std.proofs.lemmas.List.{append-nil}
 use Rattle.std.proofs.lemmas.List.Elements.{filter-append}
 use mathlib.Core.List.{IsPrefix}
 use Rattle.vschema.specs.declared.changes.RowChange.{RowChange}
 use Rattle.vschema.specs.Database.{Database, SameRows, all_applied}
-use Rattle.journal.specs.Views.{SeatView, PassView, IsLater}
-use Rattle.shard_run.specs.declared.Event.TheVariants.{Retire}
+use Rattle.shard_law.specs.Views.{SeatView, PassView, IsLater}
+use Rattle.shard_law.specs.Event.TheVariants.{Retire}
 use Rattle.shard_law.proofs.Lists.{In-left, In-from_Contains, Contains-from_In}
-use Rattle.shard_run.specs.declared.ShardRecord.{ShardRecord}
-use Rattle.shard_run.specs.declared.Mode.{Mode}
-use Rattle.shard_run.specs.declared.Mode.TheVariants.{Following, Serving, Retired}
-use Rattle.shard_run.specs.declared.Entry.{Entry}
-use Rattle.shard_run.specs.Runs.{Opening, Run, mode, mode_from, shard_rows, stored_on, held_changes, is_stored, is_on, is_opening, first_rows, entries_on, answers_queries}
+use Rattle.shard_law.specs.ShardRecord.{ShardRecord}
+use Rattle.shard_law.specs.Mode.{Mode}
+use Rattle.shard_law.specs.Mode.TheVariants.{Following, Serving, Retired}
+use Rattle.shard_law.specs.Entry.{Entry}
+use Rattle.shard_law.specs.ShardRunRuns.{Opening, Run, mode, mode_from, shard_rows, stored_on, held_changes, is_stored, is_on, is_opening, first_rows, entries_on, answers_queries}
 use Rattle.shard_law.specs.Legal.{IsOnItsSlot}
 use Rattle.shard_law.specs.declared.limits.Limits.{Limits}
 use Rattle.shard_contents.specs.declared.contents.Contents.{Contents}

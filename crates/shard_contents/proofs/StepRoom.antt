@@ -9,7 +9,7 @@ use Rattle.vschema.specs.declared.changes.RowChange.{RowChange}
 use Rattle.vschema.specs.declared.changes.RowChange.TheVariants.{Added, Replaced, Removed}
 use Rattle.vschema.specs.Database.{Database, same_row, without, applied, all_applied, changed_table}
 use Rattle.shard_law.proofs.Databases.{length-applied}
-use Rattle.shard_run.specs.Openings.{row_count}
+use Rattle.shard_law.specs.Openings.{row_count}
 use Rattle.shard_law.specs.declared.limits.Limits.{Limits}
 use Rattle.shard_contents.specs.Commits.{is_added, is_removed}
 use Rattle.shard_contents.specs.inner.Stores.{row_after}

@@ -9,13 +9,13 @@ use Rattle.vschema.specs.declared.changes.RowChange.{RowChange}
 use Rattle.vschema.specs.Schema.{no_table}
 use Rattle.vschema.specs.TypedWrites.{IsTypedWrite}
 use Rattle.vschema.specs.Database.{Database, rows_of, restrict, all_applied, changed_table, change_lies_in, restricted_changes}
-use Rattle.sql_eval.specs.Writes.{written_table, changes_of}
-use Rattle.shard_run.specs.declared.ShardRecord.{ShardRecord}
-use Rattle.shard_run.specs.declared.Event.{Event}
-use Rattle.shard_run.specs.declared.Event.TheVariants.{Commit, Follow, Copy, Freeze, Thaw, Retire, Serve}
-use Rattle.shard_run.specs.declared.Entry.{Entry}
-use Rattle.shard_run.specs.Runs.{Run, Opening, database, is_on, is_stored, stored_on, stored_changes}
-use Rattle.shard_run.specs.Copies.{change_is_copied}
+use Rattle.shard_store.specs.Writes.{written_table, changes_of}
+use Rattle.shard_law.specs.ShardRecord.{ShardRecord}
+use Rattle.shard_law.specs.Event.{Event}
+use Rattle.shard_law.specs.Event.TheVariants.{Commit, Follow, Copy, Freeze, Thaw, Retire, Serve}
+use Rattle.shard_law.specs.Entry.{Entry}
+use Rattle.shard_law.specs.ShardRunRuns.{Run, Opening, database, is_on, is_stored, stored_on, stored_changes}
+use Rattle.shard_law.specs.Copies.{change_is_copied}
 use Rattle.shard_law.specs.Legal.{Legal, LegalFrom, May, IsChangeOf, AreChangesOf}
 use Rattle.shard_law.proofs.Lists.{In-all, In-from_filter, AllByRecursion-push, slice_get-In, all-weaker, all-filter, all-append}
 use Rattle.std.proofs.lemmas.List.Elements.{All-from_recursion, recursion_from_All}

@@ -9,8 +9,8 @@ use Rattle.vschema.specs.declared.changes.RowChange.{RowChange}
 use Rattle.vschema.specs.declared.changes.RowChange.TheVariants.{Added, Replaced, Removed}
 use Rattle.vschema.specs.Checks.{is_aggregated}
 use Rattle.vschema.specs.Database.{Database, rows_of, same_row, without, applied, all_applied}
-use Rattle.sql_eval.specs.Conditions.{is_kept}
-use Rattle.sql_eval.specs.Queries.{Keyed, keyed_row, keyed_groups, kept_rows, IsAnswer}
+use Rattle.shard_store.specs.Conditions.{is_kept}
+use Rattle.shard_store.specs.Queries.{Keyed, keyed_row, keyed_groups, kept_rows, IsAnswer}
 use Rattle.shard_store.proofs.Rows.{filter-without_in, filter-without_out}
 use Rattle.shard_law.proofs.Databases.{length-applied}
 use Rattle.shard_contents.specs.inner.Stores.{row_after}

@@ -13,17 +13,17 @@ use Rattle.vschema.specs.declared.changes.RowChange.{RowChange}
 use Rattle.vschema.specs.declared.changes.RowChange.TheVariants.{Added, Replaced, Removed}
 use Rattle.vschema.specs.Schema.{no_table}
 use Rattle.vschema.specs.Database.{Database, lies_in, restrict, all_applied}
-use Rattle.sql_eval.specs.Writes.{written_table, changes_of, change}
-use Rattle.journal.specs.Runs.{IsLegal, by_session}
-use Rattle.journal.specs.Views.{PassView}
-use Rattle.shard_run.specs.declared.ShardRecord.{ShardRecord}
-use Rattle.shard_run.specs.declared.Event.TheVariants.{Commit}
-use Rattle.shard_run.specs.declared.Entry.{Entry}
-use Rattle.shard_run.specs.declared.Mode.TheVariants as modes
-use Rattle.shard_run.specs.Runs.{Run, Opening, database, shard_rows, mode, answers_queries, entries_on, stored_on}
+use Rattle.shard_store.specs.Writes.{written_table, changes_of, change}
+use Rattle.shard_law.specs.Runs.{IsLegal, by_session}
+use Rattle.shard_law.specs.Views.{PassView}
+use Rattle.shard_law.specs.ShardRecord.{ShardRecord}
+use Rattle.shard_law.specs.Event.TheVariants.{Commit}
+use Rattle.shard_law.specs.Entry.{Entry}
+use Rattle.shard_law.specs.Mode.TheVariants as modes
+use Rattle.shard_law.specs.ShardRunRuns.{Run, Opening, database, shard_rows, mode, answers_queries, entries_on, stored_on}
 use Rattle.shard_contents.specs.declared.outcomes.CommitOutcome.{CommitOutcome}
 use Rattle.shard_contents.specs.declared.outcomes.CommitOutcome.TheVariants.{Count, Frozen, NotServing}
-use Rattle.shard_run.specs.Openings.{row_count}
+use Rattle.shard_law.specs.Openings.{row_count}
 use Rattle.shard_law.specs.declared.limits.Limits.{Limits}
 use Rattle.shard_law.specs.Entries.{commit_of, MayFollow, HasLooked}
 

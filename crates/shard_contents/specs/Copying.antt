@@ -5,17 +5,17 @@ use Rattle.vschema.specs.declared.schema.Table.{Table}
 use Rattle.vschema.specs.declared.schema.Place.{Place}
 use Rattle.vschema.specs.Schema.{key_of}
 use Rattle.vschema.specs.Database.{Database, rows_of, lies_in, restricted_changes}
-use Rattle.keyrange.specs.Ranges.{is_before}
-use Rattle.shard_run.specs.declared.ShardRecord.{ShardRecord}
-use Rattle.shard_run.specs.declared.Entry.{Entry}
-use Rattle.shard_run.specs.declared.Follow as F
-use Rattle.shard_run.specs.declared.Copied.{Copied}
-use Rattle.shard_run.specs.declared.Event.{Event}
-use Rattle.shard_run.specs.declared.Event.TheVariants.{Follow}
-use Rattle.shard_run.specs.declared.Mode.TheVariants.{Following}
-use Rattle.shard_run.specs.Runs.{Run, Opening, IsShardOf, shard_rows, mode, answers_queries, entries_on, stored_on, stored_changes}
-use Rattle.shard_run.specs.Openings.{row_count}
-use Rattle.shard_run.specs.Copies.{position, is_key_before, table_at, step, has_copied_all, is_copied}
+use Rattle.vschema.specs.Ranges.{is_before}
+use Rattle.shard_law.specs.ShardRecord.{ShardRecord}
+use Rattle.shard_law.specs.Entry.{Entry}
+use Rattle.shard_law.specs.Follow as F
+use Rattle.shard_law.specs.Copied.{Copied}
+use Rattle.shard_law.specs.Event.{Event}
+use Rattle.shard_law.specs.Event.TheVariants.{Follow}
+use Rattle.shard_law.specs.Mode.TheVariants.{Following}
+use Rattle.shard_law.specs.ShardRunRuns.{Run, Opening, IsShardOf, shard_rows, mode, answers_queries, entries_on, stored_on, stored_changes}
+use Rattle.shard_law.specs.Openings.{row_count}
+use Rattle.shard_law.specs.Copies.{position, is_key_before, table_at, step, has_copied_all, is_copied}
 use Rattle.shard_law.specs.Legal.{Had, IsTableOf, is_left}
 use Rattle.shard_law.specs.declared.limits.Limits.{Limits}
 use Rattle.shard_law.specs.Entries.{ShardView}

@@ -2,7 +2,7 @@
 -- with the run nor with the tables.
 use Rattle.std.specs.Prelude.{ℕ, Bool, false, not, ◌==◌, List, [], ◌∷◌, ◌++◌}
 use Rattle.std.specs.List.{filter}
-use Rattle.shard_run.specs.Runs.{Run}
+use Rattle.shard_law.specs.ShardRunRuns.{Run}
 use Rattle.shard_contents.specs.declared.target_steps.TargetStep.{TargetStep}
 use Rattle.shard_contents.specs.declared.target_steps.TargetStep.TheVariants.{Followed, Copied}
 use Rattle.shard_contents.specs.Progress.{steps_on}

@@ -1,8 +1,8 @@
 -- What a shard keeps of an entry that it has stored: what it changes. Shards tells how many of them it still has.
 use Rattle.std.specs.Prelude.{ℕ, List, map}
 use Rattle.vschema.specs.declared.changes.RowChange.{RowChange}
-use Rattle.shard_run.specs.declared.Entry.{Entry}
-use Rattle.shard_run.specs.Runs.{Run, stored_changes, stored_on}
+use Rattle.shard_law.specs.Entry.{Entry}
+use Rattle.shard_law.specs.ShardRunRuns.{Run, stored_changes, stored_on}
 
 abbrev pub kept_of : Entry → List RowChange
 kept_of e = stored_changes e.event

@@ -6,3 +6,17 @@ pub mod Commits
 pub mod inner
 pub mod Copying
 pub mod Transactions
+pub use Rattle.shard_store.specs.Stores
+pub use Rattle.vschema.specs.WellFormed
+pub use Rattle.vschema.specs.declared.schema.Place
+pub use Rattle.shard_law.specs.Entries
+pub use Rattle.shard_law.specs.declared.limits.Limits
+pub use Rattle.shard_law.specs.Legal
+pub use Rattle.shard_law.specs.Writes
+pub use Rattle.shard_law.specs.Groups
+pub use Rattle.shard_law.specs.Queries
+pub use Rattle.shard_law.specs.Law
+pub use Rattle.shard_law.specs.Narrowing
+pub use Rattle.shard_law.specs.Conditions
+pub use Rattle.shard_law.specs.Whole
+pub use Rattle.shard_law.specs.KeyspaceIds

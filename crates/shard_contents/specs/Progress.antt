@@ -1,10 +1,10 @@
 -- How far a target has come with its sources: a step for each of its Follow and Copy entries. Kept tells which of them its state has.
 use Rattle.std.specs.Prelude.{ℕ, ◌+◌, List, [], ◌∷◌, flat_map, Option, Some, None}
 use Rattle.vt_value.specs.Values.{Row}
-use Rattle.shard_run.specs.declared.Event.{Event}
-use Rattle.shard_run.specs.declared.Event.TheVariants.{Follow, Copy}
-use Rattle.shard_run.specs.Runs.{Run, entries_on}
-use Rattle.shard_run.specs.Copies.{is_last}
+use Rattle.shard_law.specs.Event.{Event}
+use Rattle.shard_law.specs.Event.TheVariants.{Follow, Copy}
+use Rattle.shard_law.specs.ShardRunRuns.{Run, entries_on}
+use Rattle.shard_law.specs.Copies.{is_last}
 use Rattle.shard_contents.specs.declared.target_steps.TargetStep.{TargetStep}
 use Rattle.shard_contents.specs.declared.target_steps.TargetStep.TheVariants.{Followed, Copied}
 

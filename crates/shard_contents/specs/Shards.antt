@@ -3,19 +3,19 @@ use Rattle.std.specs.Prelude.{◌≡◌, ℕ, ◌+◌, ◌≤◌, ◌^◌, true,
 use Rattle.std.specs.List.{filter}
 use Rattle.vt_value.specs.Values.{Row}
 use Rattle.vschema.specs.declared.schema.Query.{Query}
-use Rattle.sql_eval.specs.Queries.{Allowed}
-use Rattle.journal.specs.Views.{SeatView}
-use Rattle.shard_run.specs.declared.ShardRecord.{ShardRecord}
-use Rattle.shard_run.specs.declared.Mode.{Mode}
-use Rattle.shard_run.specs.declared.Mode.TheVariants.{Following, Frozen, Retired, Dropped}
-use Rattle.shard_run.specs.declared.Event.TheVariants.{Retire}
-use Rattle.shard_run.specs.declared.Entry.{Entry}
-use Rattle.shard_run.specs.Runs.{Run, Opening, shard_rows, mode, answers_queries, stored_on, stored_changes, entries_on}
-use Rattle.shard_run.specs.Openings.{IsOpening, row_count}
-use Rattle.shard_run.specs.declared.Follow as F
+use Rattle.shard_store.specs.Queries.{Allowed}
+use Rattle.shard_law.specs.Views.{SeatView}
+use Rattle.shard_law.specs.ShardRecord.{ShardRecord}
+use Rattle.shard_law.specs.Mode.{Mode}
+use Rattle.shard_law.specs.Mode.TheVariants.{Following, Frozen, Retired, Dropped}
+use Rattle.shard_law.specs.Event.TheVariants.{Retire}
+use Rattle.shard_law.specs.Entry.{Entry}
+use Rattle.shard_law.specs.ShardRunRuns.{Run, Opening, shard_rows, mode, answers_queries, stored_on, stored_changes, entries_on}
+use Rattle.shard_law.specs.Openings.{IsOpening, row_count}
+use Rattle.shard_law.specs.Follow as F
 use Rattle.vschema.specs.Database.{SameRows, restricted_changes}
 use Rattle.shard_law.specs.Legal.{IsOnItsSlot}
-use Rattle.shard_run.specs.Copies.{position, change_is_copied}
+use Rattle.shard_law.specs.Copies.{position, change_is_copied}
 use Rattle.shard_law.specs.declared.limits.Limits.{Limits}
 use Rattle.shard_contents.specs.Kept.{kept_on}
 use Rattle.shard_contents.specs.KeptEntries.{entries_kept}

@@ -12,15 +12,15 @@ use Rattle.vschema.specs.declared.changes.RowChange.{RowChange}
 use Rattle.vschema.specs.Database.{all_applied, changed_table}
 use Rattle.vschema.specs.Sources.{source_tables}
 use Rattle.vschema.specs.TypedWrites.{IsTypedWrite}
-use Rattle.sql_eval.specs.Queries.{Allowed}
-use Rattle.sql_eval.specs.Writes.{written_table, changes_of}
-use Rattle.journal.specs.Runs.{IsLegal, by_session}
-use Rattle.journal.specs.Views.{PassView}
-use Rattle.shard_run.specs.declared.ShardRecord.{ShardRecord}
-use Rattle.shard_run.specs.declared.Mode.TheVariants.{Serving}
-use Rattle.shard_run.specs.declared.Event.TheVariants.{Commit}
-use Rattle.shard_run.specs.declared.Entry.{Entry}
-use Rattle.shard_run.specs.Runs.{Run, Opening, shard_rows, mode, entries_on, stored_changes, stored_on}
+use Rattle.shard_store.specs.Queries.{Allowed}
+use Rattle.shard_store.specs.Writes.{written_table, changes_of}
+use Rattle.shard_law.specs.Runs.{IsLegal, by_session}
+use Rattle.shard_law.specs.Views.{PassView}
+use Rattle.shard_law.specs.ShardRecord.{ShardRecord}
+use Rattle.shard_law.specs.Mode.TheVariants.{Serving}
+use Rattle.shard_law.specs.Event.TheVariants.{Commit}
+use Rattle.shard_law.specs.Entry.{Entry}
+use Rattle.shard_law.specs.ShardRunRuns.{Run, Opening, shard_rows, mode, entries_on, stored_changes, stored_on}
 use Rattle.shard_law.specs.Legal.{IsChangeOf, AreChangesOf}
 use Rattle.shard_law.specs.declared.limits.Limits.{Limits}
 use Rattle.shard_contents.specs.declared.touched_table.Touch.{Touch}

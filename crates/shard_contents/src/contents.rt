@@ -5,9 +5,9 @@ ghost use Rattle.vschema.specs.Schema.{no_table};
 ghost use Rattle.vschema.specs.declared.changes.Write.{Write as WrittenStatement};
 ghost use Rattle.std.specs.List.{AllByRecursion};
 ghost use Rattle.vschema.specs.Database.{SameRows, all_applied, changed_table};
-ghost use Rattle.sql_eval.specs.Writes.{written_table, changes_of};
-ghost use Rattle.shard_run.specs.Openings.{row_count};
-ghost use Rattle.shard_run.specs.Runs.{held_changes};
+ghost use Rattle.shard_store.specs.Writes.{written_table, changes_of};
+ghost use Rattle.shard_law.specs.Openings.{row_count};
+ghost use Rattle.shard_law.specs.ShardRunRuns.{held_changes};
 ghost use Rattle.shard_store.specs.Stores.{IsReadyFor};
 ghost use Rattle.shard_contents.specs.Kept.{keep};
 ghost use Rattle.shard_contents.specs.KeptEntries.{kept_of};
@@ -19,15 +19,13 @@ use crate::copies::{copy_shard, one, with_owned};
 use crate::kept_entry::KeptEntry;
 use crate::stored_entries::StoredEntries;
 use crate::target_steps::{TargetStep, keep};
-use shard_law::{Limits, MOST_ENTRIES};
-use shard_run::{Commit, Entry, Event, Follow, Mode, ShardRecord};
+use shard_law::{Commit, Entry, Event, Follow, Limits, MOST_ENTRIES, Mode, ShardRecord};
 use shard_store::{KeyedChange, StoredTables};
 use std::alloc::{AllocError, Global};
 use vschema::{RowChange, VSchema, Write};
 use vt_value::{Items, Refusal};
 
 /// What a shard holds besides its seat.
-#[derive(Drop)]
 pub struct Contents {
     pub shard: ShardRecord,
     pub store: StoredTables,
@@ -36,6 +34,24 @@ pub struct Contents {
     // how far a target has come with its sources
     pub steps: Vec<TargetStep>,
     pub limits: Limits,
+}
+
+impl Drop for Contents {
+    // Who drops one calls this, and need not know what it owns.
+    fn drop(self) {
+        let Contents {
+            shard,
+            store,
+            mode: _,
+            stored,
+            steps,
+            limits: _,
+        } = self;
+        drop(shard);
+        drop(store);
+        drop(stored);
+        drop(steps);
+    }
 }
 
 /// The session that commits, and the number of its statement.

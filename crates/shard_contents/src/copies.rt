@@ -1,7 +1,7 @@
 //! Equal shards and changes, with memory of their own, and two helpers for values that are handed on.
 ghost use Rattle.std.specs.Prelude.{◌≡◌, ◌∷◌, [], Ok, Err, IfOk, IfErr};
 
-use shard_run::ShardRecord;
+use shard_law::ShardRecord;
 use std::alloc::{AllocError, Global};
 use vschema::{Place, RowChange};
 use vt_value::{Items, copy_row};

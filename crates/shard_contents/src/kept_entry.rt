@@ -27,9 +27,16 @@ fn shared(alloc: Global, changes: &[RowChange]) -> Result<Vec<SharedChange>, All
 
 /// What a shard keeps of an entry that it has stored: its changes, whose rows the tables hold too. No code asks for the rest of the entry once
 /// it is appended, so it isn't kept. Contracts see a list of `RowChange`s.
-#[derive(Drop)]
 pub struct KeptEntry {
     changes: Changes,
+}
+
+impl Drop for KeptEntry {
+    // Who drops one calls this, and need not know what it owns.
+    fn drop(self) {
+        let KeptEntry { changes } = self;
+        drop(changes);
+    }
 }
 
 impl Model for KeptEntry {

@@ -25,9 +25,15 @@ pub use kept_entry::KeptEntry;
 pub use next_rows::{COPY_STEP, is_key_before, is_reached, lies_in};
 pub use outcomes::{CommitOutcome, ReadOutcome, Reading};
 pub use pending::Pending;
+pub use shard_law::{
+    Limits, MOST_ENTRIES, MOST_ROWS, MOST_STORED, Narrowed, Whole, narrow, select_local,
+    shards_hold_one_database,
+};
+pub use shard_store::{Fixed, StoredTables, fixed_values, rows_by_limit};
 pub use sorted::{SortedTable, SortedTables};
 pub use store::changed_table;
 pub use stored_entries::StoredEntries;
 pub use target_steps::TargetStep;
 pub use touched_table::Touch;
 pub use transaction_rows::{changes_any, select_in_transaction};
+pub use vschema::VSchema;

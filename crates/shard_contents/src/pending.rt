@@ -13,11 +13,24 @@ use vschema::{Query, RowChange, Write};
 
 /// A transaction on its one shard that isn't committed: the tables that it has touched, its writes in order, and the row changes that they
 /// make. Contracts see a `PendingView`.
-#[derive(Drop)]
 pub struct Pending {
     pub touched: Vec<Touch>,
     pub writes: Vec<Write>,
     pub changes: Vec<RowChange>,
+}
+
+impl Drop for Pending {
+    // Who drops one calls this, and need not know what it owns.
+    fn drop(self) {
+        let Pending {
+            touched,
+            writes,
+            changes,
+        } = self;
+        drop(touched);
+        drop(writes);
+        drop(changes);
+    }
 }
 
 impl Model for Pending {

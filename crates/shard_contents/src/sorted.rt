@@ -193,9 +193,16 @@ fn ordinal_of(tables: &[SortedTable], table: usize) -> Option<usize>
 }
 
 /// Tables in the order of their primary keys, each once. Contracts see a list of `EarlierTable`s.
-#[derive(Drop)]
 pub struct SortedTables {
     tables: Vec<SortedTable>,
+}
+
+impl Drop for SortedTables {
+    // Who drops one calls this, and need not know what it owns.
+    fn drop(self) {
+        let SortedTables { tables } = self;
+        drop(tables);
+    }
 }
 
 impl Model for SortedTables {

@@ -15,7 +15,6 @@ use std::marker::Model;
 
 /// The entries that a shard has stored, in order. While nobody follows the shard none is kept, since nobody asks for it. Contracts see a
 /// `StoredView`.
-#[derive(Drop)]
 pub struct StoredEntries {
     // how many were given up, all before the kept ones
     first: usize,
@@ -23,6 +22,20 @@ pub struct StoredEntries {
     // of each table, how many entries there were when one last changed it; no entry has changed a table after the last of these
     last_changed: Vec<usize>,
     is_followed: bool,
+}
+
+impl Drop for StoredEntries {
+    // Who drops one calls this, and need not know what it owns.
+    fn drop(self) {
+        let StoredEntries {
+            first: _,
+            kept,
+            last_changed,
+            is_followed: _,
+        } = self;
+        drop(kept);
+        drop(last_changed);
+    }
 }
 
 impl Model for StoredEntries {

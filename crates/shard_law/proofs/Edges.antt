@@ -12,7 +12,7 @@ use Rattle.std.proofs.lemmas.List.Sorted.{ranks_by}
 use Rattle.keyrange.specs.declared.KeyRange.{KeyRange}
 use Rattle.keyrange.specs.Ranges.{is_less, is_before, is_before_end, has_id, IsByteString, Overlap}
 use Rattle.keyrange.specs.Names.{IsNamed}
-use Rattle.vschema.specs.declared.schema.Place.{Place}
+use Rattle.sql_eval.specs.Place.{Place}
 use Rattle.shard_law.specs.Legal.{TogetherHold}
 use Rattle.shard_law.proofs.Lists.{In, In-from_Contains, In-all, all-append}
 

@@ -8,20 +8,20 @@ use Rattle.vt_value.specs.declared.value.Value.TheVariants.{Null}
 use Rattle.vt_value.specs.declared.refusal.Refusal.TheVariants.{WrongValueCount, NotSupported, NoDefaultValue, NullNotAllowed, OutOfRange, TooLong}
 use Rattle.vt_value.specs.Values.{is_null}
 use Rattle.sql_tree.specs.declared.Assignment.{Assignment}
-use Rattle.vschema_json.specs.declared.column.Column.{Column}
-use Rattle.vschema_json.specs.declared.column.ColumnType.{ColumnType}
-use Rattle.vschema_json.specs.declared.column.ColumnType.TheVariants.{BigInt, BigIntUnsigned, VarBinary}
-use Rattle.vschema.specs.declared.schema.Table.{Table}
-use Rattle.vschema.specs.declared.schema.VSchema.{VSchema}
-use Rattle.vschema.specs.declared.changes.Write.{Write}
-use Rattle.vschema.specs.declared.changes.Write.TheVariants.{Insert, Update, Delete}
-use Rattle.vschema.specs.Schema.{no_table, ordinal_from}
-use Rattle.vschema.specs.Resolved.{Name, ordinal, ordinals_from}
-use Rattle.vschema.specs.Scopes.{only}
-use Rattle.vschema.specs.Checks.{has_number, filter_has, condition_mixes, is_text_type, value_is_text, differ}
-use Rattle.vschema.specs.WriteChecks.{Stored, with_column, insert_ordinals, has_wrong_count, inserted_values, assigned_values, has_other_kind, has_wrong_null, has_out_of_range, has_too_long, is_out_of_range, is_too_long, leaves_out_column, sets_key, update_is_not_supported}
-use Rattle.vschema.specs.TypedWrites.{IsTypedWrite, insert, update, delete, unless_refused, insert_checks, update_checks, delete_checks, insert_over, update_over, delete_over, value_for, whole_row, resolved_assignment}
-use Rattle.vschema.specs.Storable.{is_storable, is_storable_value, are_storable_values}
+use Rattle.sql_eval.specs.Column.{Column}
+use Rattle.sql_eval.specs.ColumnType.{ColumnType}
+use Rattle.sql_eval.specs.ColumnType.TheVariants.{BigInt, BigIntUnsigned, VarBinary}
+use Rattle.sql_eval.specs.Table.{Table}
+use Rattle.sql_eval.specs.VSchema.{VSchema}
+use Rattle.sql_eval.specs.Write.{Write}
+use Rattle.sql_eval.specs.Write.TheVariants.{Insert, Update, Delete}
+use Rattle.sql_eval.specs.Schema.{no_table, ordinal_from}
+use Rattle.sql_eval.specs.Resolved.{Name, ordinal, ordinals_from}
+use Rattle.sql_eval.specs.Scopes.{only}
+use Rattle.sql_eval.specs.Checks.{has_number, filter_has, condition_mixes, is_text_type, value_is_text, differ}
+use Rattle.sql_eval.specs.WriteChecks.{Stored, with_column, insert_ordinals, has_wrong_count, inserted_values, assigned_values, has_other_kind, has_wrong_null, has_out_of_range, has_too_long, is_out_of_range, is_too_long, leaves_out_column, sets_key, update_is_not_supported}
+use Rattle.sql_eval.specs.TypedWrites.{IsTypedWrite, insert, update, delete, unless_refused, insert_checks, update_checks, delete_checks, insert_over, update_over, delete_over, value_for, whole_row, resolved_assignment}
+use Rattle.sql_eval.specs.Storable.{is_storable, is_storable_value, are_storable_values}
 use Rattle.shard_law.proofs.Typed.{found, unrefused, passed}
 
 -- a value for a column that the table has is one that it may hold

@@ -1,9 +1,9 @@
 -- Short runs over the shards -80 and 80-, with the rows (1, NULL) and (2, NULL) of t.
 use Rattle.std.proofs.Common.{◌≡◌, ℕ, List, [], ◌∷◌, refl, Some, None, Option, pos}
 use Rattle.std.specs.Int.{reverse_bits_onto}
-use Rattle.vt_value.specs.declared.value.Value.{Value}
-use Rattle.vt_value.specs.declared.value.Value.TheVariants.{Null, Int}
-use Rattle.vt_value.specs.Values.{Row}
+use Rattle.vschema.specs.Value.{Value}
+use Rattle.vschema.specs.Value.TheVariants.{Null, Int}
+use Rattle.vschema.specs.Values.{Row}
 use Rattle.vschema.specs.declared.changes.Write.TheVariants.{Insert}
 use Rattle.vschema.specs.declared.changes.RowChange.TheVariants.{Added}
 use Rattle.vschema.proofs.Example.{schema}

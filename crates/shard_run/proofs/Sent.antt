@@ -1,7 +1,7 @@
 -- An entry may go to another thread, and a reference to it may.
 use denote.Param.Send.{IsSend, IsSync, sendable}
 use Rattle.std.proofs.Crossing as std
-use Rattle.sql_tree.proofs.Condition.TheLaws.TheKnot as condition
+use Rattle.vschema.proofs.ThelawsTheKnot as condition
 use Rattle.shard_run.specs.contracts.Entry.{the_row}
 
 pub entry_send : IsSend the_row

@@ -1,8 +1,8 @@
 -- What is asked of an opening: its shards and their first rows.
 use Rattle.std.specs.Prelude.{◌≡◌, ℕ, ◌<◌, ◌≤◌, ◌^◌, ◌==◌, IsTrue, List, [], length, map, filter, sum_by, AllPairs, ◌≢◌}
 use Rattle.std.specs.List.{AllByRecursion}
-use Rattle.keyrange.specs.Ranges.{Cover}
-use Rattle.keyrange.specs.Names.{IsNamed}
+use Rattle.vschema.specs.Ranges.{Cover}
+use Rattle.vschema.specs.Names.{IsNamed}
 use Rattle.vschema.specs.declared.schema.VSchema.{VSchema}
 use Rattle.vschema.specs.Database.{Database, restrict}
 use Rattle.vschema.specs.Storable.{is_database}

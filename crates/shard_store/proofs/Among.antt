@@ -17,7 +17,7 @@ use Rattle.std.proofs.lemmas.List.Sorted.{ranks_by, IsPermutation-map, list_any-
 use denote.Param.Members.{Mut}
 use Rattle.vt_value.specs.declared.value.Value.{Value}
 use Rattle.vt_value.specs.Values.{Row, value_cmp}
-use Rattle.operators.proofs.OrderLemmas.{value_cmp-total, value_cmp-same}
+use Rattle.sql_eval.proofs.OrderLemmas.{value_cmp-total, value_cmp-same}
 use Rattle.shard_store.specs.Keys.{row_key_cmp}
 use Rattle.shard_store.specs.Slots.{Slot, rows_in, begins, slots_with}
 use Rattle.shard_store.specs.Chosen.{is_among, Climbs, slots_among}

@@ -1,7 +1,7 @@
 -- Databases with the same rows in another order.
 use Rattle.std.proofs.Common.{[], ◌∷◌}
 use Rattle.std.proofs.lemmas.List.Sorted.{IsPermutation-refl, IsPermutation-trans}
-use Rattle.vschema.specs.Database.{Database, SameRows}
+use Rattle.sql_eval.specs.Database.{Database, SameRows}
 
 pub SameRows-refl : (a : Database) → SameRows a a
 SameRows-refl [] = tt

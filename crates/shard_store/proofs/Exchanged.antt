@@ -10,7 +10,7 @@ use Rattle.std.specs.Prelude.{OnOk, OnErr}
 use Rattle.std.specs.Option.{option_and_then}
 use Rattle.std.specs.BTreeMap.{insert_entry}
 use Rattle.vt_value.specs.Values.{Row}
-use Rattle.vschema.specs.Database.{same_row, without}
+use Rattle.sql_eval.specs.Database.{same_row, without}
 use Rattle.shard_store.specs.declared.key.RowKey.{RowKey}
 use Rattle.shard_store.specs.Keys.{row_key_cmp}
 use Rattle.shard_store.specs.Slots.{Slot, rows_in, slot_at, row_at}

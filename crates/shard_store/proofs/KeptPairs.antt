@@ -10,12 +10,12 @@ use Rattle.vt_value.specs.declared.value.Value.{Value}
 use Rattle.vt_value.specs.declared.value.Value.TheVariants.{Null}
 use Rattle.vt_value.specs.declared.value.Comparison.TheVariants.{Eq}
 use Rattle.vt_value.specs.Values.{Row, value_at, compare, is_true}
-use Rattle.operators.proofs.OrderLemmas.{value_cmp-same}
+use Rattle.sql_eval.proofs.OrderLemmas.{value_cmp-same}
 use Rattle.sql_tree.specs.declared.Condition.{Condition}
-use Rattle.vschema.specs.declared.schema.Join.{Join}
-use Rattle.vschema.specs.declared.schema.Query.{Query}
-use Rattle.vschema.specs.Checks.{is_aggregated}
-use Rattle.vschema.specs.Sources.{is_pair, paired, pairs_of}
+use Rattle.sql_eval.specs.Join.{Join}
+use Rattle.sql_eval.specs.Query.{Query}
+use Rattle.sql_eval.specs.Checks.{is_aggregated}
+use Rattle.sql_eval.specs.Sources.{is_pair, paired, pairs_of}
 use Rattle.sql_eval.specs.Conditions.{is_kept}
 use Rattle.sql_eval.specs.Queries.{Keyed, keyed_row, keyed_groups, kept_rows, IsAnswer}
 use Rattle.sql_eval.proofs.PairValues.{left_at, right_at}

@@ -12,7 +12,7 @@ use Rattle.std.proofs.lemmas.Cmp.{tied_itself}
 use Rattle.vt_value.specs.declared.value.Value.{Value}
 use Rattle.vt_value.specs.declared.value.Value.TheVariants.{Null, Int, Bytes}
 use Rattle.vt_value.specs.declared.value.Comparison.TheVariants.{Eq}
-use Rattle.operators.proofs.OrderLemmas.{value_cmp-same, value_cmp-total}
+use Rattle.sql_eval.proofs.OrderLemmas.{value_cmp-same, value_cmp-total}
 use Rattle.sql_tree.specs.declared.Operand.{Operand}
 use Rattle.sql_tree.specs.declared.Operand.TheVariants.{Column, Literal}
 use Rattle.vt_value.specs.Values.{Row, value_at, value_cmp, is_true, is_null, all_true, truth_and, truth_of, fits_order, compare, in_list}
@@ -21,15 +21,15 @@ use Rattle.vt_value.specs.declared.value.Truth.TheVariants.{True, False, Unknown
 use Rattle.vt_value.specs.declared.refusal.Refusal.TheVariants.{DuplicateKey}
 use Rattle.sql_tree.specs.declared.Assignment.{Assignment}
 use Rattle.sql_tree.specs.declared.Condition.{Condition}
-use Rattle.vschema.specs.declared.schema.Query.{Query}
-use Rattle.vschema.specs.declared.schema.Table.{Table}
-use Rattle.vschema.specs.declared.changes.Write.{Write}
-use Rattle.vschema.specs.declared.changes.Write.TheVariants.{Insert, Update, Delete}
-use Rattle.vschema.specs.declared.changes.RowChange.{RowChange}
-use Rattle.vschema.specs.declared.changes.RowChange.TheVariants.{Added, Replaced, Removed}
-use Rattle.vschema.specs.Schema.{key_of}
-use Rattle.vschema.specs.Checks.{is_aggregated}
-use Rattle.vschema.specs.Database.{Database, same_row}
+use Rattle.sql_eval.specs.Query.{Query}
+use Rattle.sql_eval.specs.Table.{Table}
+use Rattle.sql_eval.specs.Write.{Write}
+use Rattle.sql_eval.specs.Write.TheVariants.{Insert, Update, Delete}
+use Rattle.sql_eval.specs.RowChange.{RowChange}
+use Rattle.sql_eval.specs.RowChange.TheVariants.{Added, Replaced, Removed}
+use Rattle.sql_eval.specs.Schema.{key_of}
+use Rattle.sql_eval.specs.Checks.{is_aggregated}
+use Rattle.sql_eval.specs.Database.{Database, same_row}
 use Rattle.sql_eval.specs.Conditions.{is_kept, operand_value}
 use Rattle.sql_eval.specs.Queries.{keyed_row, keyed_groups, kept_rows, IsAnswer}
 use Rattle.sql_eval.specs.Writes.{has_duplicate, assigned, row_updates, changes_over}

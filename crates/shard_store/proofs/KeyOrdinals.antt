@@ -4,11 +4,11 @@ use Rattle.std.proofs.lemmas.Bool.{eqb-true}
 use Rattle.std.specs.List.{list_all}
 use Rattle.std.specs.Ordering.{is_eq}
 use Rattle.vt_value.specs.Values.{Row, value_at, value_cmp}
-use Rattle.vschema.specs.declared.schema.Table.{Table}
-use Rattle.vschema.specs.declared.schema.ColumnVindex.{ColumnVindex}
-use Rattle.vschema.specs.Schema.{key_of}
-use Rattle.vschema.specs.Database.{same_row}
-use Rattle.vschema.specs.Checks.{has_number}
+use Rattle.sql_eval.specs.Table.{Table}
+use Rattle.sql_eval.specs.ColumnVindex.{ColumnVindex}
+use Rattle.sql_eval.specs.Schema.{key_of}
+use Rattle.sql_eval.specs.Database.{same_row}
+use Rattle.sql_eval.specs.Checks.{has_number}
 use Rattle.sql_eval.proofs.RowLemmas.{same_row-map}
 use Rattle.shard_store.specs.Tables.{key_at}
 use Rattle.shard_store.specs.Places.{vindex_ordinals, key_ordinals, right_by, is_vindex_in_key}

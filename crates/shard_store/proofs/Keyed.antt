@@ -13,7 +13,7 @@ use Rattle.std.specs.declared.cmp.Ordering.TheVariants.{Less, Equal, Greater}
 use Rattle.vt_value.specs.declared.value.Value.{Value}
 use Rattle.std.specs.Prelude.{slice_index, OnOk, OnErr}
 use Rattle.vt_value.specs.Values.{Row, value_at, value_cmp}
-use Rattle.vschema.specs.Database.{same_row, without}
+use Rattle.sql_eval.specs.Database.{same_row, without}
 use Rattle.shard_store.specs.declared.key.RowKey.{RowKey}
 use Rattle.shard_store.specs.Keys.{row_key_cmp}
 use Rattle.shard_store.specs.Slots.{Slot, rows_in, slot_at, row_at, begins, slots_with, with_slot, with_row, without_slot}

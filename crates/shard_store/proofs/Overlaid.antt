@@ -11,9 +11,9 @@ use Rattle.std.proofs.lemmas.Bool.{false≢true, true≢false, ltb-false}
 use Rattle.std.proofs.lemmas.List.Elements.{filter-append}
 use Rattle.std.proofs.lemmas.List.Quantifiers.{position-Some}
 use Rattle.std.proofs.lemmas.List.Sums.{fails_before_first}
-use Rattle.operators.proofs.OrderLemmas.{rows_cmp-same}
+use Rattle.sql_eval.proofs.OrderLemmas.{rows_cmp-same}
 use Rattle.vt_value.specs.Values.{Row, same_row}
-use Rattle.vschema.specs.Database.{without}
+use Rattle.sql_eval.specs.Database.{without}
 use Rattle.shard_store.specs.declared.removed_rows.LentRow.{LentRow}
 use Rattle.shard_store.specs.declared.key.RowKey.{RowKey}
 use Rattle.shard_store.specs.Slots.{Slot, rows_in}

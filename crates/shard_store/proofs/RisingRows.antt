@@ -13,7 +13,7 @@ use Rattle.std.proofs.lemmas.List.Sorted.{ranks_by, IsPartitionPoint-from_clause
 use denote.Param.Members.{Mut}
 use Rattle.vt_value.specs.declared.value.Value.{Value}
 use Rattle.vt_value.specs.Values.{Row, value_at, value_cmp}
-use Rattle.operators.proofs.OrderLemmas.{value_cmp-total, value_cmp-same}
+use Rattle.sql_eval.proofs.OrderLemmas.{value_cmp-total, value_cmp-same}
 use Rattle.shard_store.specs.inner.Joined.{has_value, Rises, rows_lent}
 
 -- ---- values

@@ -4,9 +4,9 @@ use Rattle.std.specs.List.{AllByRecursion}
 use Rattle.std.proofs.lemmas.Bool.{eqb-true}
 use Rattle.std.proofs.lemmas.List.Sums.{sum_by-cons, count_by-le-length}
 use Rattle.vt_value.specs.Values.{Row}
-use Rattle.vschema.specs.declared.changes.RowChange.{RowChange}
-use Rattle.vschema.specs.declared.changes.RowChange.TheVariants.{Added, Replaced, Removed}
-use Rattle.vschema.specs.Database.{Database, without, changed_table, applied, all_applied}
+use Rattle.sql_eval.specs.RowChange.{RowChange}
+use Rattle.sql_eval.specs.RowChange.TheVariants.{Added, Replaced, Removed}
+use Rattle.sql_eval.specs.Database.{Database, without, changed_table, applied, all_applied}
 use Rattle.shard_store.specs.declared.key.KeyedChange.{KeyedChange}
 use Rattle.shard_store.specs.declared.key.KeyedChange.TheVariants.{Put, Take, Swap}
 use Rattle.shard_store.specs.Stores.{StoreView, room_of, change_in, changes_in, IsByItsKey, HasReadySlot, puts_into, HasRoomFor}

@@ -6,7 +6,7 @@ use Rattle.std.proofs.lemmas.List.{get_or-map, length-map}
 use Rattle.std.proofs.lemmas.List.Sorted.{IsPermutation-refl}
 use Rattle.std.proofs.lemmas.List.Sums.{sum_by-cons}
 use Rattle.vt_value.specs.Values.{Row}
-use Rattle.vschema.specs.Database.{Database, SameRows, changed_table, applied, all_applied}
+use Rattle.sql_eval.specs.Database.{Database, SameRows, changed_table, applied, all_applied}
 use Rattle.shard_store.specs.declared.key.KeyedChange.{KeyedChange}
 use Rattle.shard_store.specs.declared.key.KeyedChange.TheVariants.{Put, Take, Swap}
 use Rattle.shard_store.specs.declared.key.RowKey.{RowKey}

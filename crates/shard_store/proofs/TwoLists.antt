@@ -10,7 +10,7 @@ use Rattle.std.proofs.lemmas.List.Quantifiers.{position-Some}
 use Rattle.std.proofs.lemmas.List.Sums.{fails_before_first}
 use Rattle.std.proofs.lemmas.List.Sorted.{IsPermutation-sym, IsPermutation-trans, IsPermutation-append_left, IsPermutation-to_front}
 use Rattle.vt_value.specs.Values.{Row}
-use Rattle.vschema.specs.Database.{same_row, without}
+use Rattle.sql_eval.specs.Database.{same_row, without}
 use Rattle.shard_store.specs.declared.key.RowKey.{RowKey}
 use Rattle.shard_store.specs.Keys.{row_key_cmp}
 use Rattle.shard_store.specs.Slots.{Slot, rows_in, slot_at, row_at}

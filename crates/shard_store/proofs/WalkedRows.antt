@@ -9,8 +9,8 @@ use Rattle.std.specs.Cmp.Lexicographic.{slice_cmp}
 use Rattle.std.specs.declared.cmp.Ordering.{Ordering}
 use Rattle.std.specs.declared.cmp.Ordering.TheVariants.{Less, Equal, Greater}
 use Rattle.vt_value.specs.Values.{Row, value_cmp}
-use Rattle.vschema.specs.declared.schema.Table.{Table}
-use Rattle.vschema.specs.Schema.{key_of}
+use Rattle.sql_eval.specs.Table.{Table}
+use Rattle.sql_eval.specs.Schema.{key_of}
 use Rattle.shard_store.specs.declared.key.RowKey.{RowKey}
 use Rattle.shard_store.specs.Keys.{row_key_cmp}
 use Rattle.shard_store.specs.Slots.{Slot, rows_in, slots_from}

@@ -1,8 +1,8 @@
 -- The columns by whose values a table's rows are stored.
 use Rattle.std.specs.Prelude.{ℕ, Bool, true, not, List, [], ◌∷◌, ◌++◌, filter, Option, Some, None}
-use Rattle.vschema.specs.declared.schema.Table.{Table}
-use Rattle.vschema.specs.declared.schema.ColumnVindex.{ColumnVindex}
-use Rattle.vschema.specs.Checks.{has_number}
+use Rattle.sql_eval.specs.Table.{Table}
+use Rattle.sql_eval.specs.ColumnVindex.{ColumnVindex}
+use Rattle.sql_eval.specs.Checks.{has_number}
 
 -- the ordinal of the vindex column, in a table that has one
 abbrev pub vindex_ordinals : Option ColumnVindex → List ℕ

@@ -4,8 +4,8 @@ use Rattle.std.specs.List.{AllByRecursion}
 use Rattle.std.specs.Ordering.{is_lt}
 use Rattle.std.specs.Cmp.Lexicographic.{slice_cmp}
 use Rattle.vt_value.specs.Values.{Row, value_cmp}
-use Rattle.vschema.specs.declared.schema.Table.{Table}
-use Rattle.vschema.specs.Schema.{key_of}
+use Rattle.sql_eval.specs.Table.{Table}
+use Rattle.sql_eval.specs.Schema.{key_of}
 
 -- the primary key of one row is before that of the other
 abbrev pub is_row_before : Table → Row → Row → Bool

@@ -1,6 +1,6 @@
 -- What contracts see of a change whose rows others hold too.
-use Rattle.vschema.specs.declared.changes.RowChange.{RowChange}
-use Rattle.vschema.specs.declared.changes.RowChange.TheVariants as changes
+use Rattle.sql_eval.specs.RowChange.{RowChange}
+use Rattle.sql_eval.specs.RowChange.TheVariants as changes
 use Rattle.shard_store.specs.declared.shared_change.ChangedRows.{ChangedRows}
 use Rattle.shard_store.specs.declared.shared_change.ChangedRows.TheVariants.{Added, Replaced, Removed}
 

@@ -2,9 +2,9 @@
 use Rattle.std.specs.Prelude.{◌≡◌, ℕ, Bool, false, ◌==◌, ◌≤◌, List, [], map, slice_index, slice_index_or, count_by, IsSome}
 use Rattle.std.specs.List.{AllByRecursion}
 use Rattle.vt_value.specs.Values.{Row}
-use Rattle.vschema.specs.declared.changes.RowChange.{RowChange}
-use Rattle.vschema.specs.declared.changes.RowChange.TheVariants.{Added, Replaced, Removed}
-use Rattle.vschema.specs.Database.{Database, changed_table, all_applied}
+use Rattle.sql_eval.specs.RowChange.{RowChange}
+use Rattle.sql_eval.specs.RowChange.TheVariants.{Added, Replaced, Removed}
+use Rattle.sql_eval.specs.Database.{Database, changed_table, all_applied}
 use Rattle.shard_store.specs.declared.key.RowKey.{RowKey}
 use Rattle.shard_store.specs.declared.key.KeyedChange.{KeyedChange}
 use Rattle.shard_store.specs.declared.key.KeyedChange.TheVariants.{Put, Take, Swap}

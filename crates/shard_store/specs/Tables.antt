@@ -4,7 +4,7 @@ use Rattle.std.specs.List.{AllByRecursion, list_any}
 use Rattle.std.specs.Ordering.{is_eq}
 use Rattle.vt_value.specs.declared.value.Value.{Value}
 use Rattle.vt_value.specs.Values.{Row, value_at, value_cmp}
-use Rattle.vschema.specs.Database.{same_row}
+use Rattle.sql_eval.specs.Database.{same_row}
 use Rattle.shard_store.specs.Slots.{Slot, rows_in, slot_at}
 use Rattle.shard_store.specs.declared.key.RowKey.{RowKey}
 

@@ -3,16 +3,15 @@ ghost use Rattle.std.specs.Prelude.{◌≡◌, ◌+◌, ◌<◌, ◌++◌, [], I
 ghost use Rattle.std.specs.List.{AllByRecursion};
 ghost use Rattle.std.specs.Ordering.{is_lt};
 ghost use Rattle.vt_value.specs.Values.{value_at, value_cmp};
-ghost use Rattle.vschema.specs.Sources.{is_pair};
+ghost use Rattle.sql_eval.specs.Sources.{is_pair};
 ghost use Rattle.shard_store.specs.inner.Joined.{has_value, StoredBy, stored_rows, stored_with, slots_left, rows_lent, Rises};
 
 use crate::primary::value_at;
 use crate::table::StoredTable;
 use crate::walk::ChosenSlots;
-use sql_eval::RowSource;
+use sql_eval::{Join, RowSource};
 use std::alloc::{AllocError, Global};
 use std::marker::Model;
-use vschema::Join;
 use vt_value::{Row, Value, sort_order};
 
 /// Rows that are looked up by the value of one of their columns. Contracts see the column and the rows.

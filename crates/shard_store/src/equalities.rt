@@ -3,12 +3,12 @@ ghost use Rattle.std.specs.Prelude.{◌≡◌, ◌<◌, IfSome, List, map, true}
 ghost use Rattle.vt_value.specs.declared.value.Value.{Value as V};
 ghost use Rattle.vt_value.specs.Values.{value_at, is_true, all_true, compare, in_list};
 ghost use Rattle.sql_eval.specs.Conditions.{truth_at, operand_value};
-ghost use Rattle.vschema.specs.Sources.{paired, is_pair};
+ghost use Rattle.sql_eval.specs.Sources.{paired, is_pair};
 ghost use Rattle.sql_eval.specs.Conditions.{is_kept};
 ghost use Rattle.shard_store.specs.Chosen.{fits};
 
+use sql_eval::Join;
 use sql_tree::{Condition, Operand};
-use vschema::Join;
 use vt_value::{Comparison, Value};
 
 /// Values of which a column has one.

@@ -1,8 +1,8 @@
 //! Queries over the pairs of rows of two tables. For each row of the first table, its partners are looked up by their value, so no other
 //! pair is ever looked at.
 ghost use Rattle.std.specs.Prelude.{◌≡◌, ◌≤◌, ◌^◌, ◌++◌, ◌∷◌, [], true, IfOk, MatchOption, filter, length};
-ghost use Rattle.vschema.specs.Checks.{is_aggregated};
-ghost use Rattle.vschema.specs.Sources.{is_pair, pairs_of};
+ghost use Rattle.sql_eval.specs.Checks.{is_aggregated};
+ghost use Rattle.sql_eval.specs.Sources.{is_pair, pairs_of};
 ghost use Rattle.sql_eval.specs.Groups.{CanBeSummed};
 ghost use Rattle.sql_eval.specs.Pairs.{seen};
 ghost use Rattle.sql_eval.specs.Queries.{IsAnswer};
@@ -11,10 +11,11 @@ ghost use Rattle.shard_store.specs.inner.Partners.{current_pairs};
 
 use crate::by_value::{RowsByValue, RowsFound};
 use crate::pushdown::{own_conjuncts, passes};
-use sql_eval::{PairSource, RowSource, Seen, copy_seen, is_pair, select_local, select_pairs};
+use sql_eval::{
+    Join, PairSource, Query, RowSource, Seen, copy_seen, is_pair, select_local, select_pairs,
+};
 use sql_tree::Condition;
 use std::alloc::{AllocError, Global};
-use vschema::{Join, Query};
 use vt_value::{Items, Row};
 
 // More rows than memory can hold. The sums of a query are known to fit up to here.
@@ -101,7 +102,7 @@ fn next_of_partners<'a, 'b>(join: Join, partners: &mut Option<Partners<'a, 'b>>)
 
 impl<'a, 'b, S: RowSource<'a>> PairSource<'a> for JoinedPairs<'a, 'b, S> {
     ghost use Rattle.std.specs.Prelude.{◌++◌, filter};
-    ghost use Rattle.vschema.specs.Sources.{pairs_of};
+    ghost use Rattle.sql_eval.specs.Sources.{pairs_of};
     ghost use Rattle.shard_store.specs.inner.Joined.{passes};
     ghost use Rattle.shard_store.specs.inner.Partners.{current_pairs};
 

@@ -1,14 +1,14 @@
 //! By which columns a table's rows are stored. The vindex column comes first, so that a lookup by it walks few rows.
 ghost use Rattle.std.specs.Prelude.{◌≡◌, IsTrue, IfOk, List};
 ghost use Rattle.vt_value.specs.declared.value.Value.{Value};
-ghost use Rattle.vschema.specs.Schema.{key_of};
-ghost use Rattle.vschema.specs.Database.{same_row};
-ghost use Rattle.vschema.specs.Checks.{has_number};
+ghost use Rattle.sql_eval.specs.Schema.{key_of};
+ghost use Rattle.sql_eval.specs.Database.{same_row};
+ghost use Rattle.sql_eval.specs.Checks.{has_number};
 ghost use Rattle.shard_store.specs.Tables.{key_at};
 ghost use Rattle.shard_store.specs.Places.{vindex_ordinals, key_ordinals, is_vindex_in_key};
 
+use sql_eval::Table;
 use std::alloc::{AllocError, Global};
-use vschema::Table;
 use vt_value::Items;
 
 fn is_vindex_column(table: &Table, ordinal: usize) -> bool

@@ -1,7 +1,7 @@
 //! Walks over the rows in slots of a table that aren't gone.
 ghost use Rattle.std.specs.Prelude.{◌≡◌, ◌∷◌, [], IfOk, IfSome, MatchOption, filter};
 ghost use Rattle.std.specs.List.{AllByRecursion, list_any};
-ghost use Rattle.vschema.specs.Database.{same_row};
+ghost use Rattle.sql_eval.specs.Database.{same_row};
 ghost use Rattle.sql_eval.specs.Conditions.{is_kept};
 ghost use Rattle.shard_store.specs.Tables.{key_at, IsAtItsKey};
 ghost use Rattle.shard_store.specs.Slots.{rows_in};

@@ -3,9 +3,9 @@
 ghost use Rattle.std.specs.Prelude.{◌≡◌, ◌<◌, ◌||◌, ◌++◌, ◌∷◌, [], IsTrue, IsSorted, IfOk, OnOk, List, filter, length, position, true};
 ghost use Rattle.std.specs.List.{list_any};
 ghost use Rattle.vt_value.specs.declared.value.Value.{Value as V};
-ghost use Rattle.vschema.specs.Checks.{is_aggregated};
-ghost use Rattle.vschema.specs.Schema.{key_of};
-ghost use Rattle.vschema.specs.Database.{rows_of, same_row, without};
+ghost use Rattle.sql_eval.specs.Checks.{is_aggregated};
+ghost use Rattle.sql_eval.specs.Schema.{key_of};
+ghost use Rattle.sql_eval.specs.Database.{rows_of, same_row, without};
 ghost use Rattle.sql_eval.specs.Conditions.{is_kept};
 ghost use Rattle.sql_eval.specs.Groups.{CanBeSummed};
 ghost use Rattle.sql_eval.specs.Queries.{IsAnswer};
@@ -24,11 +24,12 @@ use crate::shared_row::SharedRows;
 use crate::stored::StoredTables;
 use crate::table::StoredTable;
 use crate::table_rows::TableRows;
-use sql_eval::{RowSource, all_kept, has_key_among, in_key_order, same_row, select_from};
+use sql_eval::{
+    Query, RowSource, Table, all_kept, has_key_among, in_key_order, same_row, select_from,
+};
 use sql_tree::Condition;
 use std::alloc::{AllocError, Global};
 use std::marker::Model;
-use vschema::{Query, Table};
 use vt_value::{Items, Row};
 
 /// The rows of a table with changes that the table does not have. Contracts see the rows, and the ordinals of the key columns.

@@ -2,9 +2,9 @@
 ghost use Rattle.std.specs.Prelude.{◌≡◌, ◌<◌, true, IfOk, IfSome, IsPermutation, List, None, filter, length, slice_index};
 ghost use Rattle.vt_value.specs.declared.value.Value.{Value as V};
 ghost use Rattle.vt_value.specs.Values.{value_at};
-ghost use Rattle.vschema.specs.Checks.{is_aggregated};
-ghost use Rattle.vschema.specs.Database.{rows_of};
-ghost use Rattle.vschema.specs.Sources.{is_pair, paired, pairs_of};
+ghost use Rattle.sql_eval.specs.Checks.{is_aggregated};
+ghost use Rattle.sql_eval.specs.Database.{rows_of};
+ghost use Rattle.sql_eval.specs.Sources.{is_pair, paired, pairs_of};
 ghost use Rattle.sql_eval.specs.Conditions.{is_kept};
 ghost use Rattle.sql_eval.specs.Groups.{CanBeSummed};
 ghost use Rattle.sql_eval.specs.Queries.{IsAnswer};
@@ -18,9 +18,8 @@ use crate::stored::StoredTables;
 use crate::table::StoredTable;
 use crate::table_rows::TableRows;
 use crate::walk::ChosenRows;
-use sql_eval::select_local;
+use sql_eval::{Join, Query, select_local};
 use std::alloc::{AllocError, Global};
-use vschema::{Join, Query};
 use vt_value::{Items, Row};
 
 impl StoredTable {

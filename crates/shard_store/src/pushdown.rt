@@ -3,7 +3,7 @@ ghost use Rattle.std.specs.Prelude.{◌≡◌, ◌++◌, List, map, true, IsTrue
 ghost use Rattle.std.specs.List.{list_all};
 ghost use Rattle.vt_value.specs.declared.value.Value.{Value as V};
 ghost use Rattle.vt_value.specs.Values.{is_true, all_true, any_true};
-ghost use Rattle.vschema.specs.Sources.{padded_row};
+ghost use Rattle.sql_eval.specs.Sources.{padded_row};
 ghost use Rattle.sql_eval.specs.Conditions.{truth_at, operand_value, is_kept};
 ghost use Rattle.shard_store.specs.inner.Joined.{passes};
 

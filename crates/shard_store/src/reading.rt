@@ -4,15 +4,15 @@ ghost use Rattle.std.specs.Prelude.{◌≡◌, ◌⊎◌, ◌<◌, true, IsTrue,
 ghost use Rattle.std.specs.List.{list_any};
 ghost use Rattle.vt_value.specs.declared.value.Value.{Value as V};
 ghost use Rattle.vt_value.specs.Values.{value_at};
-ghost use Rattle.vschema.specs.Checks.{is_aggregated};
-ghost use Rattle.vschema.specs.Schema.{key_of};
-ghost use Rattle.vschema.specs.Database.{rows_of, same_row};
-ghost use Rattle.vschema.specs.Sources.{source_rows};
+ghost use Rattle.sql_eval.specs.Checks.{is_aggregated};
+ghost use Rattle.sql_eval.specs.Schema.{key_of};
+ghost use Rattle.sql_eval.specs.Database.{rows_of, same_row};
+ghost use Rattle.sql_eval.specs.Sources.{source_rows};
 ghost use Rattle.sql_eval.specs.Conditions.{is_kept};
 ghost use Rattle.sql_eval.specs.Groups.{CanBeSummed};
 ghost use Rattle.sql_eval.specs.Queries.{IsAnswer};
 ghost use Rattle.sql_eval.specs.Writes.{written_table, row_updates, changes_over};
-ghost use Rattle.vschema.specs.declared.changes.RowChange.TheVariants.{Removed};
+ghost use Rattle.sql_eval.specs.RowChange.TheVariants.{Removed};
 ghost use Rattle.shard_store.specs.Slots.{rows_in};
 ghost use Rattle.shard_store.specs.Tables.{key_at, begins_with};
 ghost use Rattle.shard_store.specs.inner.Stores.{IsInsertOf};
@@ -28,10 +28,12 @@ use crate::stored::StoredTables;
 use crate::table::StoredTable;
 use crate::table_rows::TableRows;
 use crate::walk::{AllRows, ChosenRows, ChosenSlots, RowsAt};
-use sql_eval::{all_kept, change_local, removals_from, select_from, select_local, updates_from};
+use sql_eval::{
+    Query, RowChange, Table, Write, all_kept, change_local, removals_from, select_from,
+    select_local, updates_from,
+};
 use sql_tree::{Assignment, Condition};
 use std::alloc::{AllocError, Global};
-use vschema::{Query, RowChange, Table, Write};
 use vt_value::{Items, Refusal, Row, Value};
 
 impl StoredTable {

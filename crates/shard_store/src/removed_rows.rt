@@ -5,7 +5,7 @@ ghost use Rattle.std.specs.Ordering.{is_lt};
 ghost use Rattle.std.specs.Cmp.Lexicographic.{slice_cmp};
 ghost use Rattle.vt_value.specs.declared.value.Value.{Value as V};
 ghost use Rattle.vt_value.specs.Values.{value_at, value_cmp};
-ghost use Rattle.vschema.specs.Database.{same_row};
+ghost use Rattle.sql_eval.specs.Database.{same_row};
 ghost use Rattle.shard_store.specs.Tables.{key_at};
 ghost use Rattle.shard_store.specs.inner.Overlays.{is_gone};
 ghost use Rattle.shard_store.specs.inner.Gaps.{is_below_lent, in_gap, IsGapIn};

@@ -1,14 +1,14 @@
 //! The rows of a table from a row on, in the order of primary keys if the rows are stored in that order.
 ghost use Rattle.std.specs.Prelude.{◌≡◌, ◌<◌, ◌++◌, IsTrue, IfOk, option_copied, filter, length};
-ghost use Rattle.vschema.specs.Database.{rows_of};
+ghost use Rattle.sql_eval.specs.Database.{rows_of};
 ghost use Rattle.shard_store.specs.RowsAfter.{comes_after, IsInOrder};
 
 use crate::shared_row::SharedRows;
 use crate::stored::StoredTables;
 use crate::table_rows::TableRows;
 use crate::walk::RowsInOrder;
+use sql_eval::Table;
 use std::alloc::{AllocError, Global};
-use vschema::Table;
 use vt_value::Row;
 
 /// Rows of a table that are still to come, among which are all after a row: those in slots, in the order of primary keys if

@@ -2,7 +2,7 @@
 
 use crate::stored::StoredTables;
 use crate::table_rows::TableRows;
-use vschema::{Join, Query};
+use sql_eval::{Join, Query};
 
 /// How many rows a query without a condition reads at most: no more than its LIMIT lets through, if any rows will do.
 pub fn rows_by_limit(query: &Query) -> usize {

@@ -1,13 +1,13 @@
 //! Changes of rows that others hold too.
 ghost use Rattle.std.specs.Prelude.{◌≡◌, IfOk};
-ghost use Rattle.vschema.specs.declared.changes.RowChange.TheVariants as changes;
-ghost use Rattle.vschema.specs.Database.{changed_table, changed_row};
+ghost use Rattle.sql_eval.specs.RowChange.TheVariants as changes;
+ghost use Rattle.sql_eval.specs.Database.{changed_table, changed_row};
 ghost use Rattle.shard_store.specs.SharedChanges.{row_change};
 
 use crate::shared_row::SharedRow;
+use sql_eval::RowChange;
 use std::alloc::{AllocError, Global};
 use std::marker::Model;
-use vschema::RowChange;
 use vt_value::{Row, copy_row};
 
 /// What is done to one row of the table at an ordinal, or to one and another in its place.
@@ -27,8 +27,8 @@ pub struct SharedChange {
 
 impl Model for SharedChange {
     ghost use Rattle.std.specs.Coded.{codes};
-    ghost use Rattle.vschema.specs.contracts.changes.RowChange as change;
-    ghost use Rattle.vschema.specs.declared.changes.RowChange.{RowChange};
+    ghost use Rattle.sql_eval.specs.VschemaRowChange as change;
+    ghost use Rattle.sql_eval.specs.RowChange.{RowChange};
     ghost use Rattle.shard_store.specs.SharedChanges.{row_change};
 
     ghost Value = { RowChange };

@@ -1,8 +1,8 @@
 //! The tables of a shard. Changes are prepared with all their memory first, and then applied without any.
 ghost use Rattle.std.specs.Prelude.{◌≡◌, ◌==◌, ◌+◌, ◌<◌, ◌≤◌, ◌^◌, if◌then◌else◌, ◌++◌, ◌∷◌, [], ℕ, IsTrue, IsSome, map, OnOk, OnErr, IfOk, length, slice_set, count_by, IsPermutation, sum_by, nat_le};
 ghost use Rattle.std.specs.List.{AllByRecursion};
-ghost use Rattle.vschema.specs.declared.changes.RowChange.TheVariants.{Added, Replaced, Removed};
-ghost use Rattle.vschema.specs.Database.{SameRows, rows_of, without, changed_table, applied, all_applied};
+ghost use Rattle.sql_eval.specs.RowChange.TheVariants.{Added, Replaced, Removed};
+ghost use Rattle.sql_eval.specs.Database.{SameRows, rows_of, without, changed_table, applied, all_applied};
 ghost use Rattle.shard_store.specs.Slots.{slot_at};
 ghost use Rattle.shard_store.specs.Tables.{key_at};
 ghost use Rattle.shard_store.specs.Stores.{ordinals_of, ready_of, room_of, key_in, change_in, changes_in, IsByItsKey, HasReadySlot, HasItsKey, puts_into, HasRoomFor, IsReadyFor};
@@ -14,15 +14,22 @@ use crate::key_values::KeyValues;
 use crate::shared_change::{ChangedRows, SharedChange};
 use crate::shared_row::SharedRow;
 use crate::table_rows::TableRows;
+use sql_eval::Table;
 use std::alloc::{AllocError, Global};
 use std::marker::Model;
-use vschema::Table;
 use vt_value::{Items, Row};
 
 /// The rows of a shard's tables, in the order of the VSchema. Contracts see a `StoreView`.
-#[derive(Drop)]
 pub struct StoredTables {
     pub(crate) tables: Vec<TableRows>,
+}
+
+impl Drop for StoredTables {
+    // Who drops one calls this, and need not know what it owns.
+    fn drop(self) {
+        let StoredTables { tables } = self;
+        drop(tables);
+    }
 }
 
 impl Model for StoredTables {

@@ -3,7 +3,7 @@ ghost use Rattle.std.specs.Prelude.{◌≡◌, ◌<◌, ◌^◌, ◌&&◌, not, 
 ghost use Rattle.std.specs.List.{AllByRecursion, list_any};
 ghost use Rattle.vt_value.specs.declared.value.Value.{Value as V};
 ghost use Rattle.vt_value.specs.Values.{value_at};
-ghost use Rattle.vschema.specs.Database.{same_row, without};
+ghost use Rattle.sql_eval.specs.Database.{same_row, without};
 ghost use Rattle.shard_store.specs.Slots.{rows_in, slot_at, row_at, slots_from, with_slot, without_slot};
 ghost use Rattle.shard_store.specs.Tables.{key_at, has_key, begins_with, IsAtItsKey};
 ghost use Rattle.shard_store.specs.Chosen.{is_among};
@@ -17,9 +17,9 @@ use crate::slots::Slots;
 use crate::sorted::sorted;
 use crate::walk::{RowsAmong, RowsInOrder, RowsWith};
 use row_chunks::Walk;
+use sql_eval::Table;
 use std::alloc::{AllocError, Global};
 use std::marker::Model;
-use vschema::Table;
 use vt_value::{Items, Row, Value, copy};
 
 /// The rows of a table, each in the slot of its own key: the values of the table's key columns. No two rows have the same key.

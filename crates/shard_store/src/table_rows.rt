@@ -1,6 +1,6 @@
 //! The rows of a table, without a promise that their keys differ: a row lies in the slot of its key, or in a list if another row has that slot.
 ghost use Rattle.std.specs.Prelude.{◌≡◌, ◌+◌, ◌-◌, ◌<◌, ◌≤◌, ◌++◌, ◌∷◌, [], IsSome, IfOk, OnOk, IsPermutation, length, position, vec_len, vec_capacity};
-ghost use Rattle.vschema.specs.Database.{same_row, without};
+ghost use Rattle.sql_eval.specs.Database.{same_row, without};
 ghost use Rattle.shard_store.specs.Slots.{rows_in, slot_at};
 ghost use Rattle.shard_store.specs.Tables.{key_at};
 
@@ -72,12 +72,25 @@ fn shared(alloc: Global, rows: &[SharedRow]) -> Result<Vec<SharedRow>, AllocErro
 
 /// The rows of a table in any number, also of one key: each in the slot of its key, or outside the slots if another row has its key
 /// or the key has no slot. Contracts see a `RowsView`.
-#[derive(Drop)]
 pub struct TableRows {
     pub(crate) stored: StoredTable,
     pub(crate) unslotted: Vec<SharedRow>,
     // whose slots are to be no longer ready, and to be given up if they have no row
     pub(crate) changed: Vec<ChangedKey>,
+}
+
+impl Drop for TableRows {
+    // Who drops one calls this, and need not know what it owns.
+    fn drop(self) {
+        let TableRows {
+            stored,
+            unslotted,
+            changed,
+        } = self;
+        drop(stored);
+        drop(unslotted);
+        drop(changed);
+    }
 }
 
 impl Model for TableRows {

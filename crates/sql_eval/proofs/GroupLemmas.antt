@@ -12,9 +12,9 @@ use Rattle.vt_value.specs.Values.{Row, value_at, is_null, same_row}
 use Rattle.sql_tree.specs.declared.Item.{Item}
 use Rattle.sql_tree.specs.declared.Item.TheVariants.{Column, CountRows, Count, Sum, Min, Max}
 use Rattle.sql_tree.specs.declared.Key.{Key}
-use Rattle.operators.specs.Orders.{value_order, keys_cmp, sort_values}
-use Rattle.operators.specs.Slices.{columns_of}
-use Rattle.operators.proofs.SliceLemmas.{drop_next}
+use Rattle.aggregate.specs.Orders.{value_order, keys_cmp, sort_values}
+use Rattle.aggregate.specs.Slices.{columns_of}
+use Rattle.aggregate.proofs.SliceLemmas.{drop_next}
 use Rattle.aggregate.specs.Aggregates.{present, values_of, total}
 use Rattle.aggregate.specs.Groups.{distinct, joined_part, joined_parts, of_group, group_keys, joined_rows}
 use Rattle.aggregate.proofs.PartsOfRows.{first_past}

@@ -21,3 +21,6 @@ pub mod FrontRows
 pub mod Pairs
 pub mod PairValues
 pub mod NarrowLemmas
+pub use Rattle.aggregate.proofs.OrderLemmas
+pub use Rattle.aggregate.proofs.PartsOfRows
+pub use Rattle.vschema.proofs.Example

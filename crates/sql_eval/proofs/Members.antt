@@ -6,7 +6,7 @@ use Rattle.std.specs.Ordering.{is_eq, int_cmp, nat_cmp, ordering_reverse}
 use Rattle.std.specs.Cmp.Lexicographic.{slice_cmp}
 use Rattle.std.specs.declared.cmp.Ordering.{Ordering}
 use Rattle.std.specs.declared.cmp.Ordering.TheVariants.{Less, Equal, Greater}
-use Rattle.operators.proofs.OrderLemmas.{value_cmp-total}
+use Rattle.aggregate.proofs.OrderLemmas.{value_cmp-total}
 use denote.Ref.{Bor}
 use Rattle.vt_value.specs.declared.value.Value.{Value}
 use Rattle.vt_value.specs.declared.value.Value.TheVariants.{Null, Int, Bytes}

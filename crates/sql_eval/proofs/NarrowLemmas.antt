@@ -12,8 +12,8 @@ use Rattle.vt_value.specs.declared.value.Value.{Value}
 use Rattle.vt_value.specs.Values.{Row, value_at}
 use Rattle.sql_tree.specs.declared.Item.{Item}
 use Rattle.sql_tree.specs.declared.Item.TheVariants.{Column, CountRows, Count, Sum, Min, Max}
-use Rattle.operators.specs.Orders.{keys_cmp}
-use Rattle.operators.specs.Slices.{sliced, columns_of}
+use Rattle.aggregate.specs.Orders.{keys_cmp}
+use Rattle.aggregate.specs.Slices.{sliced, columns_of}
 use Rattle.vschema.specs.declared.schema.Query.{Query}
 use Rattle.vschema.specs.Checks.{is_aggregate, is_aggregated}
 use Rattle.sql_eval.specs.Conditions.{is_kept}

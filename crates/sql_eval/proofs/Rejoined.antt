@@ -8,7 +8,7 @@ use Rattle.std.proofs.lemmas.List.Elements.{filter-append}
 use Rattle.std.proofs.lemmas.List.Sorted.{IsPermutation-refl, IsPermutation-sym, IsPermutation-map}
 use Rattle.vt_value.specs.Values.{Row, value_at, same_row}
 use Rattle.sql_tree.specs.declared.Item.{Item}
-use Rattle.operators.proofs.SliceLemmas.{drop_next}
+use Rattle.aggregate.proofs.SliceLemmas.{drop_next}
 use Rattle.aggregate.specs.inner.Grouping.{has_row}
 use Rattle.aggregate.specs.Groups.{distinct, joined_part, joined_parts, of_group, group_keys, joined_rows}
 use Rattle.aggregate.proofs.DistinctLemmas.{none_of, has_distinct}

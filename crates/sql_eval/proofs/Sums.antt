@@ -13,9 +13,9 @@ use Rattle.sql_tree.specs.declared.Item.TheVariants.{Column, CountRows, Count, S
 use Rattle.aggregate.specs.Aggregates.{size, IsColumnValue}
 use Rattle.aggregate.specs.Groups.{column_size, AreSummable}
 use Rattle.aggregate.proofs.HeldLemmas.{stored_within}
-use Rattle.vschema_json.specs.declared.column.Column as schema
-use Rattle.vschema_json.specs.declared.column.ColumnType.{ColumnType}
-use Rattle.vschema_json.specs.declared.column.ColumnType.TheVariants.{BigInt, BigIntUnsigned, VarBinary}
+use Rattle.vschema.specs.Column as schema
+use Rattle.vschema.specs.ColumnType.{ColumnType}
+use Rattle.vschema.specs.ColumnType.TheVariants.{BigInt, BigIntUnsigned, VarBinary}
 use Rattle.vschema.specs.declared.schema.Table.{Table}
 use Rattle.vschema.specs.Checks.{is_text_type, value_is_text, differ}
 use Rattle.vschema.specs.WriteChecks.{is_out_of_range}

@@ -12,7 +12,7 @@ use Rattle.std.proofs.lemmas.Map.Keys.{IsDistinct-IsPermutation}
 use Rattle.vt_value.specs.Values.{Row}
 use Rattle.vschema.specs.declared.schema.Table.{Table}
 use Rattle.vschema.specs.Schema.{key_of}
-use Rattle.operators.proofs.OrderLemmas.{value_cmp-total}
+use Rattle.aggregate.proofs.OrderLemmas.{value_cmp-total}
 use Rattle.sql_eval.specs.Writes.{has_duplicate}
 use Rattle.sql_eval.specs.KeyOrder.{key_cmp}
 use Rattle.sql_eval.specs.inner.Keys.{same_key, has_twins, shares_key}

@@ -5,8 +5,8 @@ use Rattle.sql_tree.specs.declared.Item.{Item}
 use Rattle.sql_tree.specs.declared.Item.TheVariants.{Column}
 use Rattle.sql_tree.specs.declared.Key.{Key}
 use Rattle.sql_tree.specs.declared.LimitClause.{LimitClause}
-use Rattle.operators.specs.Orders.{row_cmp}
-use Rattle.operators.specs.Slices.{sliced, columns_of}
+use Rattle.aggregate.specs.Orders.{row_cmp}
+use Rattle.aggregate.specs.Slices.{sliced, columns_of}
 use Rattle.aggregate.specs.Groups.{joined_rows}
 use Rattle.vschema.specs.declared.schema.Query.{Query}
 use Rattle.vschema.specs.Checks.{is_aggregate}

@@ -6,7 +6,7 @@ use Rattle.vt_value.specs.declared.value.Value.TheVariants.{Null}
 use Rattle.vt_value.specs.Values.{Row, value_at, same_row}
 use Rattle.sql_tree.specs.declared.Item.{Item}
 use Rattle.sql_tree.specs.declared.Item.TheVariants.{Column, CountRows, Count, Sum, Min, Max}
-use Rattle.operators.specs.Slices.{columns_of}
+use Rattle.aggregate.specs.Slices.{columns_of}
 use Rattle.aggregate.specs.Aggregates.{values_of, sum_of, least_of, greatest_of, count_of, IsColumnValue}
 use Rattle.aggregate.specs.Groups.{distinct}
 

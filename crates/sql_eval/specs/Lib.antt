@@ -7,3 +7,28 @@ pub mod Narrowing
 pub mod Pairs
 pub mod Writes
 pub mod inner
+pub use Rattle.aggregate.specs.Groups as AggregateGroups
+pub use Rattle.aggregate.specs.Aggregates
+pub use Rattle.aggregate.specs.inner.SumLemmas
+pub use Rattle.vschema.specs.declared.schema.VSchema
+pub use Rattle.vschema.specs.Schema
+pub use Rattle.vschema.specs.Database
+pub use Rattle.vschema.specs.Storable
+pub use Rattle.vschema.specs.WellFormed
+pub use Rattle.vschema.specs.declared.schema.Place
+pub use Rattle.vschema.specs.declared.changes.Write
+pub use Rattle.vschema.specs.declared.changes.RowChange
+pub use Rattle.vschema.specs.TypedWrites
+pub use Rattle.vschema.specs.declared.schema.Table
+pub use Rattle.vschema.specs.Column
+pub use Rattle.vschema.specs.ColumnType
+pub use Rattle.vschema.specs.Resolved
+pub use Rattle.vschema.specs.Scopes
+pub use Rattle.vschema.specs.Checks
+pub use Rattle.vschema.specs.WriteChecks
+pub use Rattle.vschema.specs.declared.schema.ColumnVindex
+pub use Rattle.vschema.specs.declared.schema.Keyspace
+pub use Rattle.vschema.specs.Sources
+pub use Rattle.vschema.specs.contracts.changes.RowChange as VschemaRowChange
+pub use Rattle.vschema.specs.declared.schema.Join
+pub use Rattle.vschema.specs.declared.schema.Query

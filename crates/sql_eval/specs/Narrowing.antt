@@ -3,7 +3,7 @@ use Rattle.std.specs.Prelude.{ℕ, ◌+◌, ◌*◌, ◌==◌, Bool, not, List, 
 use Rattle.vt_value.specs.Values.{Row}
 use Rattle.sql_tree.specs.declared.Item.{Item}
 use Rattle.sql_tree.specs.declared.Item.TheVariants.{Column, CountRows, Count, Sum, Min, Max}
-use Rattle.operators.specs.Slices.{shown_at}
+use Rattle.aggregate.specs.Slices.{shown_at}
 use Rattle.vschema.specs.declared.schema.Query.{Query}
 use Rattle.sql_eval.specs.Queries.{IsAnswer}
 use Rattle.sql_eval.specs.declared.narrowed.Whole.{Whole}

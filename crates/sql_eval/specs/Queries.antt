@@ -5,8 +5,8 @@ use Rattle.vt_value.specs.declared.value.Value.TheVariants.{Null}
 use Rattle.vt_value.specs.Values.{Row, value_at}
 use Rattle.sql_tree.specs.declared.Item.{Item}
 use Rattle.sql_tree.specs.declared.Item.TheVariants.{Column}
-use Rattle.operators.specs.Orders.{keys_cmp, sort_values}
-use Rattle.operators.specs.Slices.{sliced}
+use Rattle.aggregate.specs.Orders.{keys_cmp, sort_values}
+use Rattle.aggregate.specs.Slices.{sliced}
 use Rattle.vschema.specs.declared.schema.Query.{Query}
 use Rattle.vschema.specs.Checks.{is_aggregated}
 use Rattle.vschema.specs.Database.{Database}

@@ -11,7 +11,7 @@ ghost use Rattle.sql_eval.specs.Queries.{IsAnswer};
 use crate::conditions::{Seen, keeps_seen, seen_at};
 use crate::queries::{show, shown_ordinals};
 use crate::rows::value_at;
-use operators::{Limit, Operator, Project, collect};
+use aggregate::{Limit, Operator, Project, collect};
 use sql_tree::{Condition, Key};
 use std::alloc::{AllocError, Global};
 use vschema::{Join, Query};

@@ -23,4 +23,5 @@ pub use narrowed::{Narrowed, Whole, narrow};
 pub use queries::{select_from, select_local, show};
 pub use rows::same_row;
 pub use source::{RowSource, SliceRows, all_kept, next_kept};
+pub use vschema::{ColumnVindex, Join, Query, RowChange, Table, Write};
 pub use writes::{change_local, removals_from, updates_from};

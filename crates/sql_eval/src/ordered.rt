@@ -1,13 +1,13 @@
 //! Rows in an order that sort keys allow.
 ghost use Rattle.std.specs.Prelude.{◌≡◌, IfOk, OnOk, IsPermutation, IsSorted, map, filter};
-ghost use Rattle.operators.specs.Orders.{row_cmp};
+ghost use Rattle.aggregate.specs.Orders.{row_cmp};
 ghost use Rattle.sql_eval.specs.Conditions.{is_kept};
 ghost use Rattle.sql_eval.specs.inner.Fronts.{IsFront};
 
 use crate::filters::Filter;
 use crate::fronts::first_ordered;
 use crate::source::{RowSource, next_passing};
-use operators::compare_rows;
+use aggregate::compare_rows;
 use sql_tree::Key;
 use std::alloc::{AllocError, Global};
 use std::marker::Model;

@@ -3,7 +3,7 @@
 ghost use Rattle.std.specs.Prelude.{◌≡◌, ◌≤◌, ◌^◌, ◌∷◌, [], IsTrue, length, pos, IfOk, IfSome, map, filter, true};
 ghost use Rattle.std.specs.List.{list_all};
 ghost use Rattle.vschema.specs.Checks.{is_aggregated};
-ghost use Rattle.operators.specs.Slices.{columns_of};
+ghost use Rattle.aggregate.specs.Slices.{columns_of};
 ghost use Rattle.sql_eval.specs.Conditions.{is_kept};
 ghost use Rattle.sql_eval.specs.Groups.{CanBeSummed};
 ghost use Rattle.sql_eval.specs.Grouping.{shown_ordinal, group_columns, group_order, IsSortedSlice};
@@ -15,7 +15,7 @@ use crate::filters::Filter;
 use crate::groups::{Grouping, Parts, group_columns, group_order, shown_ordinal};
 use crate::ordered::{ordered, ordered_front};
 use crate::source::{RowSource, SliceRows, kept_count, shown};
-use operators::{Limit, Project, Rows, collect, project_row, shows_whole, sort_rows};
+use aggregate::{Limit, Project, Rows, collect, project_row, shows_whole, sort_rows};
 use sql_tree::{Condition, Item, Key};
 use std::alloc::{AllocError, Global};
 use vschema::Query;

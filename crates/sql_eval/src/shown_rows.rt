@@ -1,7 +1,7 @@
 //! What the items of a query without aggregates show of a row.
 ghost use Rattle.std.specs.Prelude.{◌≡◌, IfOk, map};
 ghost use Rattle.vt_value.specs.Values.{value_at};
-ghost use Rattle.operators.specs.Slices.{columns_of};
+ghost use Rattle.aggregate.specs.Slices.{columns_of};
 ghost use Rattle.sql_eval.specs.Grouping.{shown_ordinal};
 
 use crate::groups::shown_ordinal;

@@ -1,7 +1,7 @@
 //! Lends rows one at a time, so that a query copies only what it shows, and LIMIT ends a walk early.
 ghost use Rattle.std.specs.Prelude.{◌≡◌, List, [], ◌∷◌, MatchOption, IfOk, OnOk, ◌≤◌, ◌^◌, length, filter, map, take, drop};
 ghost use Rattle.vt_value.specs.declared.value.Value.{Value};
-ghost use Rattle.operators.specs.Slices.{columns_of, sliced};
+ghost use Rattle.aggregate.specs.Slices.{columns_of, sliced};
 ghost use Rattle.sql_eval.specs.Conditions.{is_kept};
 ghost use Rattle.sql_eval.specs.Grouping.{shown_ordinal};
 

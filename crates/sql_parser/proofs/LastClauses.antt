@@ -1,6 +1,7 @@
 -- The clauses after the filter of a SELECT.
 use Rattle.std.proofs.Common.{◌≡◌, true, List, [], ◌∷◌, Option, Some, None, refl}
 use Rattle.sql_lexer.specs.declared.token.Sign.TheVariants.{LeftParenthesis, RightParenthesis, Comma, Semicolon, Star, Minus, Dot}
+use Rattle.sql_lexer.specs.Endings.{is_end}
 use Rattle.sql_lexer.specs.Lexemes.{keyword, identifier, number, text, sign, operator}
 use Rattle.sql_lexer.specs.inner.Results.{◌>>=◌}
 use Rattle.sql_tree.specs.declared.ColumnName.{ColumnName}
@@ -8,7 +9,7 @@ use Rattle.sql_tree.specs.declared.Key.{Key}
 use Rattle.sql_tree.specs.declared.LimitClause.{LimitClause}
 use Rattle.sql_parser.specs.declared.last_clauses.LastClauses.{LastClauses}
 use Rattle.sql_parser.specs.Grammar.{Lexemes}
-use Rattle.sql_parser.specs.inner.Reading.{Read, group_at, order_at, limit_at, last_clauses_at, is_end}
+use Rattle.sql_parser.specs.inner.Reading.{Read, group_at, order_at, limit_at, last_clauses_at}
 
 -- there are none where a text ends
 pub none_at_end : (ts : Lexemes) → is_end ts ≡ true → last_clauses_at ts ≡ Some (record { group_by = []; order_by = []; limit = None }, ts)

@@ -5,6 +5,7 @@ use Rattle.std.proofs.lemmas.Bool.{leb-true, le-leb, and_parts, not-true}
 use Rattle.vt_value.specs.declared.value.Comparison.TheVariants.{Eq}
 use Rattle.sql_lexer.specs.declared.token.Keyword.TheVariants as k
 use Rattle.sql_lexer.specs.declared.token.Sign.TheVariants.{Semicolon}
+use Rattle.sql_lexer.specs.Endings.{is_end}
 use Rattle.sql_lexer.specs.Lexemes.{keyword, identifier, text, sign, operator}
 use Rattle.sql_lexer.specs.inner.Results.{◌>>=◌}
 use Rattle.sql_lexer.proofs.Options.{some_is, bound, guard_some}
@@ -17,7 +18,7 @@ use Rattle.sql_tree.specs.Literals.{literals_of}
 use Rattle.sql_parser.specs.Qualifiers.{qualifies_outside_select}
 use Rattle.sql_parser.specs.Grammar.{Lexemes, max_literals, is_setting, ReadsSelect, ReadsCharacterSet, ReadsStatement, ReadsText}
 use Rattle.sql_parser.specs.Grammar as g
-use Rattle.sql_parser.specs.inner.Reading.{select_at, insert_at, update_at, delete_at, from_at, name_at, charset_at, equals_at, setting_at, control_at, statement_at, is_end, is_text, text_at}
+use Rattle.sql_parser.specs.inner.Reading.{select_at, insert_at, update_at, delete_at, from_at, name_at, charset_at, equals_at, setting_at, control_at, statement_at, is_text, text_at}
 use Rattle.sql_parser.proofs.Sound.{Front, glue}
 use Rattle.sql_parser.proofs.ClauseLaws.{list_sound, from_is, equals_is, join_sound, where_sound, group_sound, order_sound, limit_sound, list_again, join_again, where_again, group_again, order_again, limit_again}
 use Rattle.sql_parser.proofs.LiteralLaws.{name_is}

@@ -6,12 +6,13 @@ use Rattle.vt_value.specs.declared.value.Comparison.{Comparison}
 use Rattle.sql_lexer.specs.declared.token.Token.{Token}
 use Rattle.sql_lexer.specs.declared.token.TokenKind.TheVariants as kind
 use Rattle.sql_lexer.specs.declared.token.Keyword.TheVariants as k
+use Rattle.sql_lexer.specs.Endings.{is_end}
 use Rattle.sql_lexer.specs.Lexemes.{identifier, number, operator, lexemes_of}
 use Rattle.sql_tree.specs.declared.Select as S
 use Rattle.sql_tree.specs.declared.Statement.TheVariants.{Select}
 use Rattle.sql_tree.specs.Literals.{Name, filter_literals}
 use Rattle.sql_parser.specs.Grammar.{Lexemes, max_literals}
-use Rattle.sql_parser.specs.inner.Reading.{said, fitting, is_and, is_or, after_at, number_at, after_name_at, natural_at, literal_at, operand_at, test_at, predicate_at, joined_at, negation_at, not_at, compared_at, filter_at, where_at, is_end, is_text}
+use Rattle.sql_parser.specs.inner.Reading.{said, fitting, is_and, is_or, after_at, number_at, after_name_at, natural_at, literal_at, operand_at, test_at, predicate_at, joined_at, negation_at, not_at, compared_at, filter_at, where_at, is_text}
 
 and_true : (b : Bool) → (b && true) ≡ b
 and_true true = refl

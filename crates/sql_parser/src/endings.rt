@@ -1,33 +1,16 @@
 //! Whether a text ends after a statement, which is within its limits.
 ghost use Rattle.std.specs.Prelude.{◌≡◌, ◌+◌, ◌&&◌, not, nat_le, ℕ, List, length, sum_by};
+ghost use Rattle.sql_lexer.specs.Endings.{is_end};
 ghost use Rattle.sql_lexer.specs.Lexemes.{lexemes_of};
 ghost use Rattle.sql_tree.specs.Literals.{filter_literals};
 ghost use Rattle.sql_parser.specs.Grammar.{max_literals};
 ghost use Rattle.sql_parser.specs.Qualifiers.{filter_is_qualified};
-ghost use Rattle.sql_parser.specs.inner.Reading.{is_end};
 
 use crate::counting::{filter_has_few_literals, rows_have_few_literals};
-use crate::kinds::SEMICOLON;
 use crate::qualifiers::filter_is_qualified;
-use sql_lexer::Token;
+use sql_lexer::{Token, is_end};
 use sql_tree::{ColumnName, Condition};
 use vt_value::{Items, Value};
-
-/// Whether nothing is left but one semicolon at most.
-pub fn is_end(tokens: &[Token]) -> bool
-    ensures { (text : List ℕ) → result ≡ is_end (lexemes_of text tokens.now) }
-{
-    match tokens {
-        [] => true,
-        [
-            Token {
-                kind: SEMICOLON,
-                ..
-            },
-        ] => true,
-        _ => false,
-    }
-}
 
 /// Whether a SELECT with this filter and with this after it is a whole text.
 pub fn ends_select(filter: &Option<Condition<ColumnName>>, rest: &[Token]) -> bool

@@ -5,8 +5,7 @@ ghost use Rattle.sql_lexer.specs.inner.Results.{AgreesWith};
 ghost use Rattle.sql_parser.specs.inner.Reading.{last_clauses_at};
 
 use crate::clauses::{group, limit, order};
-use crate::endings::is_end;
-use sql_lexer::Token;
+use sql_lexer::{Token, is_end};
 use sql_tree::{ColumnName, Key, LimitClause};
 use std::alloc::Global;
 use vt_value::{Items, Refusal};

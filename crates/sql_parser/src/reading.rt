@@ -13,7 +13,7 @@ ghost use Rattle.sql_parser.specs.Qualifiers.{qualifies_outside_select};
 ghost use Rattle.sql_parser.specs.inner.Reading.{charset_at, setting_at, control_at, select_text_at, control_text_at, text_of_kind, text_at};
 
 use crate::clauses::{filter, from, join};
-use crate::endings::{ends_select, is_end};
+use crate::endings::ends_select;
 use crate::items::list;
 use crate::kinds::{
     BEGIN, COMMIT, DELETE, INSERT, INTO, NAMES, ROLLBACK, SELECT, SEMICOLON, SET, START,
@@ -23,7 +23,7 @@ use crate::last_clauses::last_clauses;
 use crate::names::name;
 use crate::said;
 use crate::writes::{delete, equals, insert, update};
-use sql_lexer::{Token, TokenKind, lex, lex_few};
+use sql_lexer::{Token, TokenKind, is_end, lex, lex_few};
 use sql_tree::{CharacterSet, Select, Statement};
 use std::alloc::Global;
 use vt_value::{Items, Refusal};

@@ -2,8 +2,8 @@
 -- the tree needs.
 use Rattle.std.specs.Prelude.{ℕ, ◌==◌, List, [], ◌∷◌, ◌++◌, map, flat_map, codes, Option, Some, None, if◌then◌else◌}
 use Rattle.std.specs.Fmt.{decimal, signed_decimal}
-use Rattle.vt_value.specs.declared.value.Value.{Value}
-use Rattle.vt_value.specs.declared.value.Value.TheVariants.{Null, Int, Bytes}
+use Rattle.sql_lexer.specs.Value.{Value}
+use Rattle.sql_lexer.specs.Value.TheVariants.{Null, Int, Bytes}
 use Rattle.sql_lexer.specs.Lexemes.{is_keyword, operator_text}
 use Rattle.sql_tree.specs.declared.ColumnName.{ColumnName}
 use Rattle.sql_tree.specs.declared.JoinOn.{JoinOn}

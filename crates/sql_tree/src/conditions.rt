@@ -7,8 +7,8 @@ ghost use Rattle.sql_tree.specs.Printing.{inside_and, inside_or};
 use crate::lists::put_bracketed;
 use crate::literals::{put, put_operand, put_operator};
 use crate::{ColumnName, Condition, Operand};
+use sql_lexer::Comparison;
 use std::alloc::AllocError;
-use vt_value::Comparison;
 
 fn put_comparison(
     out: &mut Vec<u8>,

@@ -7,7 +7,7 @@ mod literals;
 mod printing;
 
 pub use printing::{print, print_item};
-use vt_value::{Boxed, Comparison, Items, Value};
+use sql_lexer::{Boxed, Comparison, Items, Value};
 
 /// The name of a table or a column, byte by byte as it was written.
 pub type Name = Items<u8>;
@@ -79,7 +79,6 @@ pub struct JoinOn {
 }
 
 /// A SELECT. `group_by` and `order_by` are empty if it has no such clause.
-#[derive(Drop)]
 pub struct Select {
     pub list: SelectList,
     pub table: Name,
@@ -88,6 +87,28 @@ pub struct Select {
     pub group_by: Items<ColumnName>,
     pub order_by: Items<Key<ColumnName>>,
     pub limit: Option<LimitClause>,
+}
+
+impl Drop for Select {
+    // Who drops one calls this, and need not know what it owns.
+    fn drop(self) {
+        let Select {
+            list,
+            table,
+            join,
+            filter,
+            group_by,
+            order_by,
+            limit,
+        } = self;
+        drop(list);
+        drop(table);
+        drop(join);
+        drop(filter);
+        drop(group_by);
+        drop(order_by);
+        drop(limit);
+    }
 }
 
 /// An INSERT. Without a list of columns its rows have a value for each column of the table.
@@ -106,18 +127,39 @@ pub struct Assignment<C> {
 }
 
 /// An UPDATE of the rows that the filter keeps, of all rows without one.
-#[derive(Drop)]
 pub struct Update {
     pub table: Name,
     pub assignments: Items<Assignment<Name>>,
     pub filter: Option<Condition<ColumnName>>,
 }
 
+impl Drop for Update {
+    // Who drops one calls this, and need not know what it owns.
+    fn drop(self) {
+        let Update {
+            table,
+            assignments,
+            filter,
+        } = self;
+        drop(table);
+        drop(assignments);
+        drop(filter);
+    }
+}
+
 /// A DELETE of the rows that the filter keeps, of all rows without one.
-#[derive(Drop)]
 pub struct Delete {
     pub table: Name,
     pub filter: Option<Condition<ColumnName>>,
+}
+
+impl Drop for Delete {
+    // Who drops one calls this, and need not know what it owns.
+    fn drop(self) {
+        let Delete { table, filter } = self;
+        drop(table);
+        drop(filter);
+    }
 }
 
 /// A character set as it is named.

@@ -4,8 +4,8 @@ ghost use Rattle.sql_tree.specs.Printing.{following, commas, bracketed, clause_t
 
 use crate::literals::{put, put_column, put_name, put_value};
 use crate::{Assignment, ColumnName, Item, Key, Name};
+use sql_lexer::{Items, Value};
 use std::alloc::AllocError;
-use vt_value::{Items, Value};
 
 /// A part of a statement that has one printed form.
 pub trait Print {

@@ -5,9 +5,8 @@ ghost use Rattle.sql_tree.specs.Printing.{name_text, quoted_byte, quoted, value_
 
 use crate::{ColumnName, Operand};
 use itoa::Buffer;
-use sql_lexer::is_keyword;
+use sql_lexer::{Comparison, Value, is_keyword};
 use std::alloc::AllocError;
-use vt_value::{Comparison, Value};
 
 /// Puts a text as it is.
 pub fn put(out: &mut Vec<u8>, text: &[u8]) -> Result<(), AllocError>

@@ -12,8 +12,8 @@ use crate::{
     SelectList, Statement, Update,
 };
 use itoa::Buffer;
+use sql_lexer::Items;
 use std::alloc::{AllocError, Global};
-use vt_value::Items;
 
 fn put_list(out: &mut Vec<u8>, list: &SelectList) -> Result<(), AllocError>
     ensures ok { OnOk result (out.new.items ≡ out.old.items ++ list_text list.now) }

@@ -1,7 +1,7 @@
 //! Devices that fail.
 ghost use Rattle.std.specs.Prelude.{None};
 
-use conversation::{DeviceFailed, Sink, Source};
+use session::conversation::{DeviceFailed, Sink, Source};
 
 /// A source that fails once its bytes are read.
 #[derive(Drop)]

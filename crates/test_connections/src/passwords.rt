@@ -2,7 +2,7 @@
 use crate::loopback::{Addresses, LET_IN, expect, greeted};
 use std::io::Write;
 use std::net::{Net, TcpListener, TcpStream};
-use vtgate_setup::ServeArgs;
+use vtgate_serve::setup::ServeArgs;
 
 /// What the server is asked for: the password of the user u is `It's a password`, and the nonce is n.
 pub(crate) const ASKED_WITH_PASSWORD: ServeArgs<'static> = ServeArgs {

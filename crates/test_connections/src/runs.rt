@@ -10,9 +10,9 @@ use std::thread::Threads;
 use std::time::Clock;
 use test_fields::{CaseAnswer, Unanswered, fields, text_of};
 use vschema::Hashing;
-use vtgate_script::{run_plan, run_script};
 use vtgate_serve::run_serve;
-use vtgate_setup::Word;
+use vtgate_serve::script::{run_plan, run_script};
+use vtgate_serve::setup::Word;
 
 fn push_words(alloc: Global, words: &mut Vec<Word>, field: &str) -> Result<(), Unanswered> {
     for word in field.split('\t') {

@@ -2,25 +2,24 @@
 ghost use Rattle.std.specs.Prelude.{◌≡◌, None, IsSome, IsTrue, IfOk};
 ghost use Rattle.keyrange.specs.Names.{IsNamed};
 ghost use Rattle.vschema.specs.WellFormed.{is_vschema};
-ghost use Rattle.shard_law.specs.Entries.{most_limits};
-ghost use Rattle.shard_calls.specs.Pendings.{IsOf};
-ghost use Rattle.opening.specs.Empty.{opening_of, FitRanges};
+ghost use Rattle.session.specs.Entries.{most_limits};
+ghost use Rattle.session.specs.Pendings.{IsOf};
+ghost use Rattle.shard_run.specs.opening.Empty.{opening_of, FitRanges};
 
 use crate::devices::InterruptedReader;
 use crate::failing::{FailingSink, FailingSource};
 use journal::{Naming, Opened, Opener};
 use keyrange::KeyRange;
-use opening::ranges_fit;
-use route_engine::{Engine, Open};
-use router::{empty_router, widest_limits};
 use session::{Access, Core, End, Reader, SessionFault, Sink, Source, Writer, serve};
-use shard::{ShardLaw, ShardPass, World};
+use shard_run::opening::ranges_fit;
 use std::alloc::Global;
 use std::marker::Brand;
 use std::sync::Wait;
 use std::thread::Threads;
 use vschema::VSchema;
 use vt_value::{Items, Refusal};
+use vtgate_serve::router::{empty_router, widest_limits};
+use vtgate_serve::{Engine, Open, ShardLaw, ShardPass, World};
 
 /// One unsharded keyspace with the table t.
 const SHOP: &str =

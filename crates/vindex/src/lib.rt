@@ -7,9 +7,11 @@ mod vindexes;
 ghost use Rattle.std.specs.Prelude.{◌≡◌, ◌↔◌, IsTrue, IsSome, IfSome};
 ghost use Rattle.vindex.specs.KeyspaceIds.{keyspace_id, is_key};
 ghost use Rattle.vindex.specs.Ksids.{ksid_bytes};
+ghost use Rattle.vindex.specs.OneVindex.{is_one_vindex};
 
 pub use ksid::Ksid;
 pub use vindexes::{Binary, BinaryMd5, Numeric, ReverseBits, Reversible, Vindex, map_and_reverse};
+pub use vt_value::Items;
 use vt_value::Value;
 
 /// The vindexes that a column may have, by their names in Vitess.
@@ -43,4 +45,16 @@ impl AnyVindex {
             _ => None,
         }
     }
+}
+
+/// Whether two columns have one vindex: the same number among those that a VSchema declares, and the same kind.
+pub fn is_one_vindex(
+    number: usize,
+    kind: AnyVindex,
+    other_number: usize,
+    other_kind: AnyVindex,
+) -> bool
+    ensures { result ≡ is_one_vindex number kind other_number other_kind }
+{
+    number == other_number && kind == other_kind
 }

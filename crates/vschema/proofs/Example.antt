@@ -1,7 +1,7 @@
 -- A VSchema with a sharded keyspace `shop` (tables t and b) and an unsharded one `base` (table u).
 use Rattle.std.proofs.Common.{ℕ, Bool, List, [], ◌∷◌, Some, None, true, false, refl}
 use Rattle.std.specs.Prelude.{codes}
-use Rattle.vindex.specs.declared.AnyVindex.TheVariants.{ReverseBits, BinaryMd5}
+use Rattle.vschema_json.specs.AnyVindex.TheVariants.{ReverseBits, BinaryMd5}
 use Rattle.vschema_json.specs.declared.column.Column.{Column}
 use Rattle.vschema_json.specs.declared.column.ColumnType.{ColumnType}
 use Rattle.vschema_json.specs.declared.column.ColumnType.TheVariants.{BigInt, BigIntUnsigned, VarBinary}

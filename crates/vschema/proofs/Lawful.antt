@@ -6,8 +6,8 @@ use Rattle.std.proofs.Math.Seq.{drop-nil}
 use Rattle.std.proofs.lemmas.Simd.{map-map}
 use Rattle.std.proofs.lemmas.List.Folds.{list_all-append}
 use Rattle.std.specs.List.{list_all, list_any}
-use Rattle.sql_lexer.specs.Lexemes.{is_word}
-use Rattle.vindex.specs.declared.AnyVindex.{AnyVindex}
+use Rattle.sql_tree.specs.Lexemes.{is_word}
+use Rattle.vschema_json.specs.AnyVindex.{AnyVindex}
 use Rattle.vschema.specs.declared.schema.ColumnVindex.{ColumnVindex}
 use Rattle.vschema.specs.declared.schema.Keyspace.{Keyspace}
 use Rattle.vschema_json.specs.declared.document.DeclaredKey.{DeclaredKey}

@@ -4,8 +4,9 @@ use Rattle.std.specs.Prelude.{not, ◌||◌, ◌&&◌, ◌==◌, nat_lt, nat_le,
 use Rattle.std.proofs.lemmas.Bool.{ltb-true, leb-true, eqb-true}
 use Rattle.vt_value.specs.declared.refusal.Refusal.{Refusal}
 use Rattle.vt_value.specs.declared.refusal.Refusal.TheVariants.{UnknownColumn, NotSupported, NotGrouped}
-use Rattle.vindex.specs.declared.AnyVindex.{AnyVindex}
-use Rattle.vindex.specs.declared.AnyVindex.TheVariants.{Numeric, ReverseBits, Binary, BinaryMd5}
+use Rattle.vschema_json.specs.AnyVindex.{AnyVindex}
+use Rattle.vschema_json.specs.AnyVindex.TheVariants.{Numeric, ReverseBits, Binary, BinaryMd5}
+use Rattle.vschema_json.specs.OneVindex.{same_vindex, is_one_vindex}
 use Rattle.sql_tree.specs.declared.JoinOn.{JoinOn}
 use Rattle.sql_tree.specs.declared.Select as S
 use Rattle.vschema_json.specs.declared.column.Column.{Column}
@@ -17,7 +18,7 @@ use Rattle.vschema.specs.declared.schema.VSchema.{VSchema}
 use Rattle.vschema.specs.Schema.{table_ordinal, table_at, no_table}
 use Rattle.vschema.specs.Scopes.{Scope, only, scope_columns}
 use Rattle.vschema.specs.Checks.{names_unknown_column, select_is_not_supported, shows_ungrouped, is_aggregated}
-use Rattle.vschema.specs.Joins.{same_vindex, takes_keys, takes_columns, left_ordinal, right_ordinal, resolved_join, is_refused, join_is_refused}
+use Rattle.vschema.specs.Joins.{takes_keys, takes_columns, left_ordinal, right_ordinal, resolved_join, is_refused, join_is_refused}
 use Rattle.vschema.specs.Sources.{kind_of, type_at, HaveOneId, IsInPlace, JoinsInPlace}
 use Rattle.vschema.specs.TypedStatement.{join_over, over, checked, checked_pair, checked_second, checked_with, checked_first, checked_at, typed_select}
 
@@ -73,8 +74,8 @@ module _ (t u : Table) (a b : ℕ) where
   one_id le None (Some w) e = cc
   one_id le (Some v) None e = cc
   one_id le (Some v) (Some w) e =
-      let last = both ((v.number == w.number) && same_vindex v.vindex w.vindex && (v.column == a)) (length t.columns + w.column == b) e in
-      let middle = both ((v.number == w.number) && same_vindex v.vindex w.vindex) (v.column == a) last.0 in
+      let last = both (is_one_vindex v.number v.vindex w.number w.vindex && (v.column == a)) (length t.columns + w.column == b) e in
+      let middle = both (is_one_vindex v.number v.vindex w.number w.vindex) (v.column == a) last.0 in
       let vindexes = both (v.number == w.number) (same_vindex v.vindex w.vindex) middle.0 in
       let at : length t.columns + w.column ≡ b = eqb-true (length t.columns + w.column) b last.1 in
       let split : b ≡ length t.columns + second = ordinal le in

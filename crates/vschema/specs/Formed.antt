@@ -1,7 +1,7 @@
 -- What every VSchema keeps: names that differ, keys that may decide a shard, and the limits.
 use Rattle.std.specs.Prelude.{ℕ, Bool, false, not, ◌&&◌, nat_le, List, length, map, filter, slice_get, option_map, Option, Some, None}
 use Rattle.std.specs.List.{list_all}
-use Rattle.sql_lexer.specs.Lexemes.{is_word}
+use Rattle.sql_tree.specs.Lexemes.{is_word}
 use Rattle.vschema_json.specs.declared.column.Column.{Column}
 use Rattle.vschema.specs.declared.schema.ColumnVindex.{ColumnVindex}
 use Rattle.vschema.specs.declared.schema.Keyspace.{Keyspace}

@@ -1,7 +1,6 @@
 -- Which joins are taken: those that each shard can make by itself.
 use Rattle.std.specs.Prelude.{ℕ, ◌+◌, Bool, true, false, not, ◌||◌, ◌&&◌, ◌==◌, nat_lt, nat_le, length, slice_get, Option, Some, None, if◌then◌else◌}
-use Rattle.vindex.specs.declared.AnyVindex.{AnyVindex}
-use Rattle.vindex.specs.declared.AnyVindex.TheVariants.{Numeric, ReverseBits, Binary, BinaryMd5}
+use Rattle.vschema_json.specs.OneVindex.{is_one_vindex}
 use Rattle.sql_tree.specs.declared.JoinOn.{JoinOn}
 use Rattle.vschema.specs.declared.schema.ColumnVindex.{ColumnVindex}
 use Rattle.vschema.specs.declared.schema.Join.{Join}
@@ -11,20 +10,13 @@ use Rattle.vschema.specs.Scopes.{Scope, scope_columns, ordinal_in}
 use Rattle.vschema.specs.Checks.{differ, column_is_text, is_aggregated}
 use Rattle.vschema.specs.Sources.{kind_of}
 
-abbrev pub same_vindex : AnyVindex → AnyVindex → Bool
-same_vindex Numeric Numeric = true
-same_vindex ReverseBits ReverseBits = true
-same_vindex Binary Binary = true
-same_vindex BinaryMd5 BinaryMd5 = true
-same_vindex _ _ = false
-
 -- Both tables have the same vindex of their keyspace, on these columns; or neither has one, and the columns are both of numbers or both of texts.
 abbrev pub takes_keys : Scope → ℕ → ℕ → Option ColumnVindex → Option ColumnVindex → Bool
 takes_keys s a b None None = not (differ (column_is_text s a) (column_is_text s b))
 takes_keys s a b None (Some w) = false
 takes_keys s a b (Some v) None = false
 takes_keys s a b (Some v) (Some w) =
-    (v.number == w.number) && same_vindex v.vindex w.vindex && (v.column == a) && (length s.first.columns + w.column == b)
+    is_one_vindex v.number v.vindex w.number w.vindex && (v.column == a) && (length s.first.columns + w.column == b)
 
 -- the columns are one of each table, both of one keyspace
 abbrev pub takes_columns : Scope → Table → ℕ → ℕ → Bool

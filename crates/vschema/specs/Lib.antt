@@ -14,3 +14,10 @@ pub mod WellFormed
 pub mod Meant
 pub mod FirstOrdinals
 pub mod inner
+pub use Rattle.vschema_json.specs.declared.column.Column
+pub use Rattle.vschema_json.specs.declared.column.ColumnType
+pub use Rattle.keyrange.specs.Names
+pub use Rattle.keyrange.specs.Ranges
+pub use Rattle.keyrange.specs.declared.KeyRange
+pub use Rattle.vt_value.specs.declared.value.Value
+pub use Rattle.vt_value.specs.Values

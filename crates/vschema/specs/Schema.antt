@@ -2,7 +2,7 @@
 use Rattle.std.specs.Prelude.{ℕ, List, [], bytes_eq, map, slice_index_or, Option, Some, None}
 use Rattle.vt_value.specs.declared.value.Value.{Value}
 use Rattle.vt_value.specs.Values.{Row, value_at}
-use Rattle.vindex.specs.KeyspaceIds.{keyspace_id}
+use Rattle.vschema_json.specs.KeyspaceIds.{keyspace_id}
 use Rattle.vschema.specs.declared.schema.ColumnVindex.{ColumnVindex}
 use Rattle.vschema.specs.declared.schema.Table.{Table}
 use Rattle.vschema.specs.declared.schema.VSchema.{VSchema}

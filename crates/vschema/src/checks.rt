@@ -6,7 +6,7 @@ ghost use Rattle.vschema.specs.Checks.{is_text_type, value_is_text, column_is_te
 ghost use Rattle.vschema.specs.Checks.{has_number, is_aggregate};
 ghost use Rattle.vschema.specs.Resolved.{resolved_condition};
 ghost use Rattle.vschema.specs.inner.Mixes.{operand_is_text_at, condition_mixes_at, filter_mixes_at};
-ghost use Rattle.vschema.specs.inner.LateChecks.{aggregates, shows_others};
+ghost use Rattle.vschema.specs.inner.LateChecks.{shows_others};
 ghost use Rattle.vschema.specs.FirstOrdinals.{first_ordinal};
 ghost use Rattle.vschema.specs.inner.FirstOrdinals.{shows_other};
 
@@ -338,11 +338,4 @@ pub fn shows_others(
 {
     let grouped = FirstOrdinals::of(alloc, group_by)?;
     Ok(has_ungrouped(&grouped, items, order_by))
-}
-
-/// Whether a query with these items and columns of GROUP BY is aggregated.
-pub fn aggregates(items: &[Item<usize>], group_by: &[usize]) -> bool
-    ensures { result ≡ aggregates items.now group_by.now }
-{
-    some_aggregate(items) || !group_by.is_empty()
 }

@@ -1,24 +1,12 @@
 //! Which joins are taken.
 ghost use Rattle.std.specs.Prelude.{◌≡◌, length};
-ghost use Rattle.vschema.specs.Joins.{same_vindex, takes_keys, takes_columns};
+ghost use Rattle.vschema.specs.Joins.{takes_keys, takes_columns};
 ghost use Rattle.vschema.specs.inner.LateChecks.{refuses_any, refuses_join};
 
 use crate::checks::{column_is_text, differ};
 use crate::schema::{ColumnVindex, Join, Table};
 use crate::scope::{Scope, second_of, table_of, width};
-use vindex::AnyVindex;
-
-fn same_vindex(a: AnyVindex, b: AnyVindex) -> bool
-    ensures { result ≡ same_vindex a b }
-{
-    matches!(
-        (a, b),
-        (AnyVindex::Numeric, AnyVindex::Numeric)
-            | (AnyVindex::ReverseBits, AnyVindex::ReverseBits)
-            | (AnyVindex::Binary, AnyVindex::Binary)
-            | (AnyVindex::BinaryMd5, AnyVindex::BinaryMd5)
-    )
-}
+use vschema_json::is_one_vindex;
 
 fn takes_keys(
     scope: &Scope,
@@ -32,8 +20,7 @@ fn takes_keys(
     match (first, second) {
         (None, None) => !differ(column_is_text(scope, a), column_is_text(scope, b)),
         (Some(v), Some(w)) => {
-            v.number == w.number
-                && same_vindex(v.vindex, w.vindex)
+            is_one_vindex(v.number, v.vindex, w.number, w.vindex)
                 && v.column == a
                 && b >= width(scope)
                 && b - width(scope) == w.column

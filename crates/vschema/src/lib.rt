@@ -30,8 +30,10 @@ pub use columns::Columns;
 pub use first_ordinals::FirstOrdinals;
 pub use group_by::GroupBy;
 pub use hashing::Hashing;
+pub use keyrange::{KeyRange, covers_once};
 pub use schema::{ColumnVindex, Join, Keyspace, Place, Query, Table, Tables, Typed, VSchema};
 pub use vschema_json::{Column, ColumnType, SchemaFault};
+pub use vt_value::{Items, Row};
 pub use write_checks::{is_out_of_range, is_too_long};
 
 // Promise: Each join that a statement means is one that shards can make by themselves: both tables lie in one keyspace, and either neither has a

@@ -1,5 +1,4 @@
 //! Reads a VSchema from its JSON text: the document, its first fault, then what it means.
-use crate::hashing::Hashing;
 use crate::meaning::meant;
 use crate::schema::VSchema;
 use std::alloc::Global;
@@ -25,18 +24,6 @@ impl VSchema {
         match first_fault(alloc, declared.as_slice())? {
             Some(fault) => Err(fault),
             None => meant(alloc, declared.as_slice()),
-        }
-    }
-    // Promise: A VSchema is the same whatever key it carries
-    /// The VSchema, with the key by which the values of groups are hashed. One that was read has a key that everybody knows, so a program
-    /// with clients gives it one of its own.
-    pub fn keyed(self, hashing: &Hashing) -> VSchema
-        ensures { result ≡ self }
-    {
-        let VSchema { keyspaces, tables } = self;
-        VSchema {
-            keyspaces,
-            tables: tables.keyed(hashing.copy()),
         }
     }
 }

@@ -1,13 +1,13 @@
 //! Statements with their names resolved: tables and columns become ordinals, or the first refusal that applies is returned.
-ghost use Rattle.std.specs.Prelude.{◌≡◌, ◌⊎◌, IfOk, IfErr, IfSome, IfNone, map, slice_get, option_map, Ok, Err, Some, None, true, false};
-ghost use Rattle.vschema.specs.inner.LateChecks.{shows_others};
+ghost use Rattle.std.specs.Prelude.{◌≡◌, ◌⊎◌, IfOk, IfErr, IfSome, IfNone, map, slice_get, option_map, Ok, Err, Some, None, false};
+ghost use Rattle.vschema.specs.Checks.{names_unknown_column, shows_ungrouped};
 ghost use Rattle.vschema.specs.Scopes.{only, both_of, scope_columns, ordinal_in};
-ghost use Rattle.vschema.specs.Joins.{left_ordinal, right_ordinal, resolved_join};
+ghost use Rattle.vschema.specs.Joins.{left_ordinal, right_ordinal, resolved_join, join_is_refused};
 ghost use Rattle.vschema.specs.Schema.{table_ordinal};
 ghost use Rattle.vschema.specs.Resolved.{ordinal, ordinals_from, resolved_operand, resolved_condition, resolved_item, resolved_list, is_qualified, qualified_in, resolved_key};
 ghost use Rattle.vschema.specs.TypedStatement.{as_query, join_over, over, checked, checked_pair, checked_second, checked_with, typed_select};
 
-use crate::checks::{aggregates, is_not_supported, names_unknown_column, shows_others};
+use crate::checks::{is_not_supported, names_unknown_column, shows_others};
 use crate::group_by::GroupBy;
 use crate::hashing::Hashing;
 use crate::joins::join_is_refused;
@@ -332,17 +332,97 @@ fn join_over(scope: &Scope, second: Option<usize>, join: &Option<JoinOn>) -> Opt
     }
 }
 
-// Why an aggregated query isn't taken.
-fn grouping_refusal(
+// The items that a query shows, and whether each was written with its table's name.
+fn resolve_shown(
     alloc: Global,
-    items: &[Item<usize>],
-    group_by: &[usize],
-    order_by: &[Key<usize>],
-) -> Option<Refusal>
-    ensures none { IfNone result (shows_others items.now group_by.now order_by.now ≡ false) }
-    ensures some { IfSome result (λ r. (r ≡ Refusal.OutOfMemory) ⊎ ((r ≡ Refusal.NotGrouped) × (shows_others items.now group_by.now order_by.now ≡ true))) }
+    scope: &Scope,
+    list: &SelectList,
+) -> Result<(Items<Item<usize>>, Items<bool>), AllocError>
+    ensures items { IfOk result (λ r. r.0 ≡ resolved_list scope.now list.now) }
+    ensures qualified { IfOk result (λ r. r.1 ≡ qualified_in list.now) }
 {
-    match shows_others(alloc, items, group_by, order_by) {
+    let items = resolve_list(alloc, scope, list)?;
+    let qualified = qualified_in(alloc, list)?;
+    Ok((items, qualified))
+}
+
+// The columns of GROUP BY, and those of ORDER BY.
+fn resolve_orders(
+    alloc: Global,
+    scope: &Scope,
+    select: &Select,
+) -> Result<(Items<usize>, Items<Key<usize>>), AllocError>
+    ensures group_by { IfOk result (λ r. r.0 ≡ map (ordinal_in scope.now) select.now.group_by) }
+    ensures order_by { IfOk result (λ r. r.1 ≡ map (resolved_key scope.now) select.now.order_by) }
+{
+    let group_by = resolve_columns(alloc, scope, select.group_by.as_slice())?;
+    let order_by = resolve_keys(alloc, scope, select.order_by.as_slice())?;
+    Ok((group_by, order_by))
+}
+
+// A query over its tables, whether it's taken or not.
+fn query_over(
+    alloc: Global,
+    hashing: &Hashing,
+    sources: &Sources,
+    select: &Select,
+) -> Result<Query, AllocError>
+    ensures ok { IfOk result (λ q. q ≡ over sources.now.ordinal sources.now.second sources.now.scope select.now) }
+{
+    let scope = &sources.scope;
+    let filter = resolve_filter(alloc, scope, &select.filter)?;
+    let (items, qualified) = resolve_shown(alloc, scope, &select.list)?;
+    let (group_by, order_by) = resolve_orders(alloc, scope, select)?;
+    Ok(Query {
+        table: sources.ordinal,
+        join: join_over(scope, sources.second, &select.join),
+        items,
+        qualified,
+        filter,
+        group_by: GroupBy::new(group_by, hashing.copy()),
+        order_by,
+        limit: select.limit,
+    })
+}
+
+fn query_join_is_refused(scope: &Scope, query: &Query) -> bool
+    ensures { result ≡ join_is_refused scope.now query.now }
+{
+    join_is_refused(scope, query.table, query.join, query.is_aggregated())
+}
+
+fn shows_ungrouped(alloc: Global, query: &Query) -> Result<bool, AllocError>
+    ensures { IfOk result (λ shows. shows ≡ shows_ungrouped query.now) }
+{
+    if query.is_aggregated() {
+        shows_others(
+            alloc,
+            query.items.as_slice(),
+            query.group_by.as_slice(),
+            query.order_by.as_slice(),
+        )
+    } else {
+        Ok(false)
+    }
+}
+
+// Why a query isn't taken, whose columns are all there.
+fn query_refusal(
+    alloc: Global,
+    sources: &Sources,
+    select: &Select,
+    query: &Query,
+) -> Option<Refusal>
+    requires known { names_unknown_column sources.now.scope select.now ≡ false }
+    requires query { query.now ≡ over sources.now.ordinal sources.now.second sources.now.scope select.now }
+    ensures none { IfNone result (checked sources.now.ordinal sources.now.second sources.now.scope select.now ≡ Ok query.now) }
+    ensures some { IfSome result (λ r. (r ≡ Refusal.OutOfMemory) ⊎ (checked sources.now.ordinal sources.now.second sources.now.scope select.now ≡ Err r)) }
+{
+    let scope = &sources.scope;
+    if is_not_supported(scope, select, &query.filter) || query_join_is_refused(scope, query) {
+        return Some(Refusal::NotSupported);
+    }
+    match shows_ungrouped(alloc, query) {
         Ok(false) => None,
         Ok(true) => Some(Refusal::NotGrouped),
         Err(failed) => Some(Refusal::from(failed)),
@@ -359,46 +439,14 @@ fn resolve_over(
     ensures ok { IfOk result (λ t. as_query (checked sources.now.ordinal sources.now.second sources.now.scope select.now) ≡ Ok t) }
     ensures err { IfErr result (λ e. (e ≡ Refusal.OutOfMemory) ⊎ (as_query (checked sources.now.ordinal sources.now.second sources.now.scope select.now) ≡ Err e)) }
 {
-    let scope = &sources.scope;
-    if names_unknown_column(scope, select) {
+    if names_unknown_column(&sources.scope, select) {
         return Err(Refusal::UnknownColumn);
     }
-    let filter = match resolve_filter(alloc, scope, &select.filter) {
-        Ok(filter) => filter,
-        Err(_) => return Err(Refusal::OutOfMemory),
-    };
-    if is_not_supported(scope, select, &filter) {
-        return Err(Refusal::NotSupported);
+    let query = query_over(alloc, hashing, sources, select)?;
+    match query_refusal(alloc, sources, select, &query) {
+        Some(refusal) => Err(refusal),
+        None => Ok(Typed::Select(query)),
     }
-    let items = resolve_list(alloc, scope, &select.list)?;
-    let qualified = qualified_in(alloc, &select.list)?;
-    let group_by = resolve_columns(alloc, scope, select.group_by.as_slice())?;
-    let order_by = resolve_keys(alloc, scope, select.order_by.as_slice())?;
-    let join = join_over(scope, sources.second, &select.join);
-    let aggregated = aggregates(items.as_slice(), group_by.as_slice());
-    if join_is_refused(scope, sources.ordinal, join, aggregated) {
-        return Err(Refusal::NotSupported);
-    }
-    if aggregated {
-        let (items, group_by, order_by) = (
-            items.as_slice(),
-            group_by.as_slice(),
-            order_by.as_slice(),
-        );
-        if let Some(refusal) = grouping_refusal(alloc, items, group_by, order_by) {
-            return Err(refusal);
-        }
-    }
-    Ok(Typed::Select(Query {
-        table: sources.ordinal,
-        join,
-        items,
-        qualified,
-        filter,
-        group_by: GroupBy::new(group_by, hashing.copy()),
-        order_by,
-        limit: select.limit,
-    }))
 }
 
 /// The tables of a query: the ordinal of the first, that of the second, if there is one, and their columns.

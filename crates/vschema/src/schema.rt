@@ -9,8 +9,7 @@ use crate::hashing::Hashing;
 use keyrange::KeyRange;
 use sql_tree::{Condition, Item, Key, LimitClause, Name};
 use std::marker::Model;
-use vindex::AnyVindex;
-use vschema_json::ColumnType;
+use vschema_json::{AnyVindex, ColumnType};
 use vt_value::Items;
 
 /// The column that decides the shard of a row, by its ordinal, and how; and which of the vindexes of its keyspace that is.
@@ -23,13 +22,29 @@ pub struct ColumnVindex {
 
 /// A table. Its keyspace and the columns of its primary key are given by their ordinals. It has a vindex if its
 /// keyspace is sharded.
-#[derive(Drop)]
 pub struct Table {
     pub name: Name,
     pub keyspace: usize,
     pub columns: Columns,
     pub primary_key: Items<usize>,
     pub vindex: Option<ColumnVindex>,
+}
+
+impl Drop for Table {
+    // Who drops one calls this, and need not know what it owns.
+    fn drop(self) {
+        let Table {
+            name,
+            keyspace: _,
+            columns,
+            primary_key,
+            vindex,
+        } = self;
+        drop(name);
+        drop(columns);
+        drop(primary_key);
+        drop(vindex);
+    }
 }
 
 /// The tables of a VSchema, with the key by which the values of groups are hashed. Contracts see the list of the tables.
@@ -98,11 +113,34 @@ pub struct Keyspace {
 
 /// What the router knows of its keyspaces and tables: at least one keyspace and at most one of each sort, names that differ, keys that may
 /// decide a shard, and the limits.
-#[derive(Drop)]
 pub struct VSchema {
     pub keyspaces: Items<Keyspace>,
     pub tables: Tables,
     pub ghost formed: { IsTrue (is_formed keyspaces tables) },
+}
+
+impl Drop for VSchema {
+    // Who drops one calls this, and need not know what it owns.
+    fn drop(self) {
+        let VSchema { keyspaces, tables } = self;
+        drop(keyspaces);
+        drop(tables);
+    }
+}
+
+impl VSchema {
+    // Promise: A VSchema is the same whatever key it carries
+    /// The VSchema, with the key by which the values of groups are hashed. One that was read has a key that everybody knows, so a program
+    /// with clients gives it one of its own.
+    pub fn keyed(self, hashing: &Hashing) -> VSchema
+        ensures { result ≡ self }
+    {
+        let VSchema { keyspaces, tables } = self;
+        VSchema {
+            keyspaces,
+            tables: tables.keyed(hashing.copy()),
+        }
+    }
 }
 
 /// A keyspace, by its ordinal, and a range of its ids.

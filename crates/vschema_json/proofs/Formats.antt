@@ -4,7 +4,7 @@ use Rattle.std.proofs.lemmas.Bool.Decides.{nat_tests}
 use Rattle.std.specs.List.{list_all}
 use Rattle.serde_json.specs.Data.{Data}
 use Rattle.serde_json.specs.Find.{get, as_bool, as_str, as_array, as_object}
-use Rattle.sql_lexer.specs.Lexemes.{is_word, is_digit, digits_onto}
+use Rattle.sql_tree.specs.Lexemes.{is_word, is_digit, digits_onto}
 use Rattle.vschema_json.specs.declared.column.Column.{Column}
 use Rattle.vschema_json.specs.declared.column.ColumnType.{ColumnType}
 use Rattle.vschema_json.specs.declared.column.ColumnType.TheVariants.{BigInt, BigIntUnsigned, VarBinary}

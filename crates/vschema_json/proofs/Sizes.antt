@@ -2,7 +2,7 @@
 use Rattle.std.proofs.Common.{◌≡◌, ℕ, ◌+◌, ◌-◌, ◌*◌, ◌<◌, ◌≤◌, List, [], ◌∷◌, Some, None, Bool, true, false, ◌&&◌, nat_le, arith, refl, sym, ◌∙◌, if◌then◌else◌}
 use Rattle.std.proofs.lemmas.Bool.Decides.{nat_tests}
 use Rattle.std.specs.List.{list_all}
-use Rattle.sql_lexer.specs.Lexemes.{is_digit, digits_onto}
+use Rattle.sql_tree.specs.Lexemes.{is_digit, digits_onto}
 use Rattle.vschema_json.specs.Documents.{begins_above_zero, column_length}
 
 pub digits_grow : (high : ℕ) (digits : List ℕ) → high ≤ digits_onto high digits

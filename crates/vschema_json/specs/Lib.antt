@@ -7,3 +7,6 @@ pub mod FaultNumbers
 pub mod ColumnTypes
 pub mod Faults
 pub mod inner
+pub use Rattle.vindex.specs.OneVindex
+pub use Rattle.vindex.specs.KeyspaceIds
+pub use Rattle.vindex.specs.declared.AnyVindex

@@ -1,8 +1,7 @@
 //! A VSchema as its text declares it, before anything is checked.
 use crate::column::Column;
 use sql_tree::Name;
-use vindex::AnyVindex;
-use vt_value::Items;
+use vindex::{AnyVindex, Items};
 
 /// A vindex that a keyspace declares. It has no kind if its type is unknown.
 #[derive(Drop)]

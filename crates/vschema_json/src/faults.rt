@@ -13,7 +13,7 @@ use crate::twice::{has_column_twice, has_twice, texts_of};
 use crate::whole::whole_has;
 use sql_tree::Name;
 use std::alloc::{AllocError, Global};
-use vt_value::Items;
+use vindex::Items;
 
 /// The most columns of a table.
 const MAX_COLUMNS: usize = 64;

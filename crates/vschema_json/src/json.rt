@@ -11,7 +11,7 @@ ghost use Rattle.vschema_json.specs.Refused.{IsFaultOf};
 use crate::fault::SchemaFault;
 use serde_json::{Map, Value};
 use std::alloc::Global;
-use vt_value::Items;
+use vindex::Items;
 
 /// What is read from an element of an array.
 pub trait Element: Sized + Drop {

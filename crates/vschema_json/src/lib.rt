@@ -24,4 +24,5 @@ pub use lookups::{keys, ordinal_of, vindex_of, vindexes};
 pub use names::{is_name, ordinal_among};
 pub use reading::{parse, read_document};
 pub use twice::{has_twice, is_one_twice};
+pub use vindex::{AnyVindex, is_one_vindex};
 pub use words::is_word;

@@ -3,7 +3,7 @@ ghost use Rattle.std.specs.Prelude.{◌≡◌, ◌+◌, ◌-◌, ◌*◌, ◌<�
 ghost use Rattle.std.specs.List.{list_all};
 ghost use Rattle.serde_json.specs.Find.{as_str};
 ghost use Rattle.serde_json.specs.View.{view};
-ghost use Rattle.sql_lexer.specs.Lexemes.{is_digit, digits_onto};
+ghost use Rattle.sql_tree.specs.Lexemes.{is_digit, digits_onto};
 ghost use Rattle.vschema_json.specs.Documents.{begins_above_zero, column_length, varbinary, column_type, vindex_named, if_word, word};
 ghost use Rattle.vschema_json.specs.Refused.{IsFaultOf};
 
@@ -18,8 +18,7 @@ use crate::words::is_word;
 use serde_json::Value;
 use sql_tree::Name;
 use std::alloc::Global;
-use vindex::AnyVindex;
-use vt_value::Items;
+use vindex::{AnyVindex, Items};
 
 fn read_name(alloc: Global, bytes: &[u8]) -> Result<Name, SchemaFault>
     ensures ok { IfOk result (λ name. if_word bytes.now ≡ Some name) }

@@ -11,7 +11,7 @@ use crate::fault::SchemaFault;
 use crate::json::{has_only, needed, read_object};
 use serde_json::Value;
 use std::alloc::Global;
-use vt_value::Items;
+use vindex::Items;
 
 /// The JSON value that a text is.
 pub fn parse(alloc: Global, text: &str) -> Result<Value, SchemaFault>

@@ -1,7 +1,7 @@
 //! Which bytes are a name.
 ghost use Rattle.std.specs.Prelude.{◌≡◌};
 ghost use Rattle.std.specs.List.{list_all};
-ghost use Rattle.sql_lexer.specs.Lexemes.{is_letter, is_word_byte, is_word};
+ghost use Rattle.sql_tree.specs.Lexemes.{is_letter, is_word_byte, is_word};
 
 /// The most bytes of a name.
 const MAX_NAME: usize = 64;

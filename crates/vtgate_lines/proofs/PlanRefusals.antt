@@ -4,8 +4,8 @@ use Rattle.vt_value.specs.declared.refusal.Refusal.{Refusal}
 use Rattle.vt_value.specs.declared.refusal.Refusal.TheVariants.{OutOfMemory, SyntaxError}
 use Rattle.sql_tree.specs.declared.Statement.{Statement}
 use Rattle.sql_parser.specs.Grammar.{Reads}
-use Rattle.vschema.specs.declared.schema.VSchema.{VSchema}
-use Rattle.vschema.specs.TypedStatement.{typed_statement}
+use Rattle.planner.specs.VSchema.{VSchema}
+use Rattle.planner.specs.TypedStatement.{typed_statement}
 use Rattle.vtgate_lines.specs.Plans.{IsPlanRefusal, no_memory, no_tree, not_typed}
 
 module _ (schema : VSchema) (text : List ℕ) where

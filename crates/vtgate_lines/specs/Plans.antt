@@ -6,13 +6,13 @@ use Rattle.keyrange.specs.declared.KeyRange.{KeyRange}
 use Rattle.keyrange.specs.Names.{range_text}
 use Rattle.sql_tree.specs.declared.Statement.{Statement}
 use Rattle.sql_parser.specs.Grammar.{Reads}
-use Rattle.vschema.specs.declared.schema.Table.{Table}
-use Rattle.vschema.specs.declared.schema.VSchema.{VSchema}
-use Rattle.vschema.specs.declared.schema.Typed.{Typed}
-use Rattle.vschema.specs.declared.schema.Typed.TheVariants.{Select, Write, Begin, Commit, Rollback, SetNames}
-use Rattle.vschema.specs.declared.changes.Write as W
-use Rattle.vschema.specs.declared.changes.Write.TheVariants.{Insert, Update, Delete}
-use Rattle.vschema.specs.TypedStatement.{typed_statement}
+use Rattle.planner.specs.Table.{Table}
+use Rattle.planner.specs.VSchema.{VSchema}
+use Rattle.planner.specs.Typed.{Typed}
+use Rattle.planner.specs.Typed.TheVariants.{Select, Write, Begin, Commit, Rollback, SetNames}
+use Rattle.planner.specs.Write as W
+use Rattle.planner.specs.Write.TheVariants.{Insert, Update, Delete}
+use Rattle.planner.specs.TypedStatement.{typed_statement}
 use Rattle.planner.specs.declared.routes.Route.{Route}
 use Rattle.planner.specs.declared.routes.Route.TheVariants as route
 use Rattle.planner.specs.Routes.{table_at, route_of, insert_route, taken_ordinals}

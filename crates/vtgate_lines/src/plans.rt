@@ -4,10 +4,9 @@ ghost use Rattle.vtgate_lines.specs.Plans.{route_name, insert_name, range_word, 
 
 use crate::rows::put;
 use keyrange::KeyRange;
-use planner::{Route, query_route, shards, write_route};
+use planner::{Query, Route, Typed, VSchema, Write, query_route, shards, write_route};
 use sql_parser::parse;
 use std::alloc::{AllocError, Global};
-use vschema::{Query, Typed, VSchema, Write};
 use vt_value::Refusal;
 
 fn route_name(route: &Route) -> &'static [u8]

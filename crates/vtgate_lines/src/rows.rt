@@ -6,7 +6,7 @@ ghost use Rattle.sql_tree.specs.Printing.{following};
 ghost use Rattle.vtgate_lines.specs.Printed.{is_printable, byte_text, printed_value, printed_row, line, rows_text};
 
 use itoa::Buffer;
-use operators::{Operator, ShownRows};
+use planner::{Operator, ShownRows};
 use std::alloc::{AllocError, Global};
 use vt_value::{Row, Value};
 

@@ -4,9 +4,8 @@
 mod running;
 
 use log::{LevelFilter, Logged, error};
+use program_log::lines::{LineQueue, LineSink, NotStarted, environment_level, start_writing};
 use running::run;
-use server_log::{LineQueue, LineSink, NotStarted, environment_level, start_writing};
-use session::{Reader, Sink, Writer};
 use std::alloc::{AllocError, Global};
 use std::env::FillError;
 use std::io;
@@ -15,7 +14,8 @@ use std::rt::Env;
 use std::sync::{Arc, Wait};
 use std::thread::Threads;
 use std::time::Clock;
-use vtgate_setup::{FAILED, FAILURE, Hashing, Word};
+use vtgate_serve::setup::{FAILED, FAILURE, Hashing, Word};
+use vtgate_serve::{Reader, Sink, Writer};
 
 /// How many bytes a word is first given room for, and how often that is doubled.
 const FIRST_ROOM: usize = 4096;

@@ -1,24 +1,23 @@
 //! The words of the command line, and what they run.
 ghost use Rattle.std.specs.Prelude.{◌≡◌, ◌≢◌, ◌≤◌, ℕ, List, false, IfSome, IfNone, bytes_eq};
-ghost use Rattle.vtgate_setup.specs.ServeArgs.{ServeArgsView, IsServeCommand};
-ghost use Rattle.vtgate_setup.specs.Words.{word_bytes};
-ghost use Rattle.vtgate_setup.specs.Statuses.{IsWrong, TellsNone};
+ghost use Rattle.vtgate_serve.specs.setup.ServeArgs.{ServeArgsView, IsServeCommand};
+ghost use Rattle.vtgate_serve.specs.setup.Words.{word_bytes};
+ghost use Rattle.vtgate_serve.specs.setup.Statuses.{IsWrong, TellsNone};
 ghost use Rattle.vtgate_main.specs.Words.{AsksPlan, AsksScript, is_plan, is_script};
-ghost use Rattle.vtgate_script.specs.Planned.{HasPlanned};
-ghost use Rattle.vtgate_script.specs.Scripted.{HasScripted};
-ghost use Rattle.vtgate_script.specs.Wrong.{IsWrongScript};
+ghost use Rattle.vtgate_serve.specs.script.Planned.{HasPlanned};
+ghost use Rattle.vtgate_serve.specs.script.Scripted.{HasScripted};
+ghost use Rattle.vtgate_serve.specs.script.Wrong.{IsWrongScript};
 ghost use Rattle.vtgate_serve.specs.Served.{HasRunServer};
 
 use log::Log;
-use session::{Sink, Source};
 use std::alloc::Global;
 use std::net::{Net, TcpListener, TcpStream};
 use std::sync::Wait;
 use std::thread::Threads;
 use std::time::Clock;
-use vtgate_script::{run_plan, run_script};
-use vtgate_serve::run_serve;
-use vtgate_setup::{Hashing, SUCCESS, WRONG_WORDS, Word};
+use vtgate_serve::script::{run_plan, run_script};
+use vtgate_serve::setup::{Hashing, SUCCESS, WRONG_WORDS, Word};
+use vtgate_serve::{Sink, Source, run_serve};
 
 fn is_word(word: &Word, bytes: &[u8]) -> bool
     ensures { result ≡ bytes_eq (word_bytes word.now) bytes.now }

@@ -1,9 +1,9 @@
 -- What a connection is greeted with.
 use Rattle.std.proofs.Common.{◌≡◌, ℕ, List, ap, ◌∙◌}
-use Rattle.vtgate_setup.specs.ServeArgs.{ServeArgsView}
+use Rattle.vtgate_serve.specs.setup.ServeArgs.{ServeArgsView}
 use Rattle.mysql_handshake.specs.Salts.{salt_of}
-use Rattle.conversation.specs.declared.access.Access.{Access}
-use Rattle.conversation.specs.declared.access.Handshake.{Handshake}
+use Rattle.session.specs.declared.conversation.access.Access.{Access}
+use Rattle.session.specs.declared.conversation.access.Handshake.{Handshake}
 use Rattle.vtgate_serve.specs.Admitted.{handshake_of}
 
 pub handshake_is : (access : Access) (salt nonce : List ℕ) (number counted : ℕ) (asked : ServeArgsView) → access.user ≡ asked.user → access.stage2 ≡ asked.stage2

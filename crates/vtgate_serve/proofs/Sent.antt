@@ -7,7 +7,7 @@ use Rattle.std.proofs.Common.{ℕ, List}
 use Rattle.journal.specs.declared.law.Naming as naming
 use Rattle.journal.specs.contracts.opener.Opener as opener_row
 use Rattle.journal.proofs.opener.Opener.TheSendSync as opener
-use Rattle.shard_calls.proofs.Sent.{pass_send}
+use Rattle.session.proofs.Sent.{pass_send}
 use Rattle.shard.specs.contracts.world.ShardLaw as law
 use Rattle.shard.specs.contracts.world.ShardLawLaw.TheImpl as laws
 use Rattle.shard_run.specs.contracts.Entry as entry

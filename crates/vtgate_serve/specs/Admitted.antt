@@ -1,8 +1,8 @@
 -- What a connection is greeted with, and whom it lets in.
 use Rattle.std.specs.Prelude.{ℕ}
-use Rattle.vtgate_setup.specs.ServeArgs.{ServeArgsView}
+use Rattle.vtgate_serve.specs.setup.ServeArgs.{ServeArgsView}
 use Rattle.mysql_handshake.specs.Salts.{salt_of}
-use Rattle.conversation.specs.declared.access.Handshake.{Handshake}
+use Rattle.session.specs.declared.conversation.access.Handshake.{Handshake}
 
 -- of the connection with the number, as the words ask
 abbrev pub handshake_of : ServeArgsView → ℕ → Handshake

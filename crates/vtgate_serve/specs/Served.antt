@@ -3,10 +3,10 @@ use Rattle.std.specs.Prelude.{ℕ, List, codes}
 use Rattle.std.specs.Io.KnownBytes.{Appends}
 use Rattle.keyrange.specs.declared.KeyRange.{KeyRange}
 use Rattle.vschema.specs.declared.schema.VSchema.{VSchema}
-use Rattle.opening.specs.Empty.{FitRanges}
+use Rattle.shard_run.specs.opening.Empty.{FitRanges}
 use Rattle.vtgate_lines.specs.Partitions.{NamesPartition}
 use Rattle.vtgate_lines.specs.Printed.{line}
-use Rattle.vtgate_setup.specs.Inputs.{Known, HasDeclared}
+use Rattle.vtgate_serve.specs.setup.Inputs.{Known, HasDeclared}
 
 abbrev pub listening_text : List ℕ
 listening_text = line (codes "listening")

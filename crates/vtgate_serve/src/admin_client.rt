@@ -2,10 +2,10 @@
 ghost use Rattle.std.specs.Prelude.{◌≡◌, ◌++◌, ◌<◌, ◌≤◌, ℕ, List, [], codes, false, length, IfOk, OnOk, OnErr};
 ghost use Rattle.std.specs.List.{list_all};
 ghost use Rattle.std.specs.Io.KnownBytes.{Appends, Consumes, IsAtEnd};
-ghost use Rattle.opening.specs.Empty.{sharded_keyspace};
+ghost use Rattle.shard_run.specs.opening.Empty.{sharded_keyspace};
 ghost use Rattle.vtgate_lines.specs.Lines.{HasNoEnd};
 ghost use Rattle.vtgate_lines.specs.Printed.{line};
-ghost use Rattle.conversation.specs.Devices.{AppendsFront};
+ghost use Rattle.session.specs.conversation.Devices.{AppendsFront};
 ghost use Rattle.admin.specs.declared.reply.AdminReply.{AdminReply};
 ghost use Rattle.admin.specs.AdminAnswers.{IsAdminReply, keyspace_of};
 ghost use Rattle.admin.specs.Words.{reply_text};
@@ -14,10 +14,9 @@ ghost use Rattle.vtgate_serve.specs.Conversations.{AllAnswered, BreaksOff, HasEn
 use crate::census::Marks;
 use crate::lines::ended_line;
 use crate::{census, events};
-use admin::{Administrator, administer};
+use admin::{Administrator, Engine, Gate, administer};
 use journal::Naming;
 use log::Log;
-use route_engine::{Engine, Gate};
 use session::{Sink, Source};
 use shard::{ShardPass, World};
 use std::alloc::Global;

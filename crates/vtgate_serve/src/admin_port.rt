@@ -1,17 +1,16 @@
 //! The admin port.
 ghost use Rattle.std.specs.Prelude.{◌≡◌, ◌≤◌, None, IfOk, length};
 ghost use Rattle.std.specs.Io.{ReadsAtMost};
-ghost use Rattle.opening.specs.Empty.{sharded_keyspace};
+ghost use Rattle.shard_run.specs.opening.Empty.{sharded_keyspace};
 ghost use Rattle.admin.specs.AdminAnswers.{keyspace_of};
 
 use crate::admin_client::talk;
 use crate::progress::ServeProgress;
 use crate::server::Server;
 use crate::waits::is_made_again;
-use admin::Administrator;
+use admin::{Administrator, Gate};
 use journal::Naming;
 use log::Log;
-use route_engine::Gate;
 use session::{DeviceFailed, Sink, Source};
 use shard::{ShardPass, World};
 use std::io::{Read, Write};

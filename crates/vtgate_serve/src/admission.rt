@@ -1,11 +1,11 @@
 //! Whom a server lets in, and what its salts are made of.
 ghost use Rattle.std.specs.Prelude.{◌≡◌, IfOk, IfErr};
-ghost use Rattle.vtgate_setup.specs.Statuses.{status_of};
+ghost use Rattle.vtgate_serve.specs.setup.Statuses.{status_of};
 
+use crate::setup::{FAILURE, RunFault, ServeArgs};
 use session::Access;
 use std::alloc::Global;
 use vt_value::Items;
-use vtgate_setup::{FAILURE, RunFault, ServeArgs};
 
 /// What the words ask for, and whom they let in.
 #[derive(Drop)]

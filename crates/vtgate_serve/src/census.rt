@@ -3,10 +3,9 @@
 use crate::events::Held;
 use crate::progress::ServeProgress;
 use crate::{cutover, events};
-use admin::widest_limits;
+use admin::{Engine, Gate, widest_limits};
 use journal::{Naming, SLOTS};
 use log::{Level, Log, log_enabled};
-use route_engine::{Engine, Gate};
 use serving::{Seated, ShardReference};
 use shard::{Shard, World};
 use shard_run::Mode;

@@ -2,8 +2,8 @@
 ghost use Rattle.std.specs.Prelude.{◌≡◌, IsSome, IfOk};
 ghost use Rattle.std.specs.Io.KnownBytes.{IsAtEnd};
 ghost use Rattle.session.specs.Served.{HasTalkedWhole, HasTalkedAlone, HasStoppedReading, HasStoppedForMemory, HasStoppedWriting};
-ghost use Rattle.conversation.specs.Devices.{read_failures_after, write_failures_after};
-ghost use Rattle.conversation.specs.Talk.{IsByInput};
+ghost use Rattle.session.specs.conversation.Devices.{read_failures_after, write_failures_after};
+ghost use Rattle.session.specs.conversation.Talk.{IsByInput};
 ghost use Rattle.vtgate_serve.specs.Admitted.{handshake_of};
 
 use crate::admission::Admission;
@@ -12,11 +12,11 @@ use crate::events;
 use crate::events::Passed;
 use crate::logins::{Login, Logins};
 use crate::statements::statement_log;
-use client_traffic::{Detail, Incoming, Outgoing, Replied};
+use admin::{Engine, Gate};
 use journal::Naming;
 use log::{Level, Log, log_enabled};
 use mysql_handshake::salt_of;
-use route_engine::{Engine, Gate};
+use program_log::traffic::{Detail, Incoming, Outgoing, Replied};
 use session::{End, SessionFault, Sink, Source, Writer, serve};
 use shard::{ShardPass, World};
 use std::alloc::Global;

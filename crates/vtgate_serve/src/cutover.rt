@@ -3,10 +3,10 @@
 use crate::events;
 use crate::progress::ServeProgress;
 use crate::statements::sharded_partitions;
+use admin::{Engine, Gate};
 use buffer::Buffer;
 use journal::Naming;
 use log::Log;
-use route_engine::{Engine, Gate};
 use serving::{Serving, ShardReference};
 use shard::{Shard, World};
 use shard_run::Mode;

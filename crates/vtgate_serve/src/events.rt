@@ -1,19 +1,19 @@
 //! What a server logs: each event is a record, with its fields.
 
 use crate::cutover::Times;
+use crate::setup::{RunFault, ServeArgs};
 use admin::widest_limits;
-use client_traffic::{Answered, Incoming, Outgoing};
 use connection_workers::NotRun;
 use keyrange::KeyRange;
 use log::kv::{Primitive, Source, Value, VisitSource};
 use log::{Level, Log, Metadata, Record, error, info, kv, warn};
-use schema_place::Place;
+use program_log::places::Place;
+use program_log::traffic::{Answered, Incoming, Outgoing};
 use session::{End, SessionFault};
 use std::fmt::Display;
 use std::net::SocketAddr;
 use std::time::{Clock, Duration, Instant};
 use std::{fmt, str};
-use vtgate_setup::{RunFault, ServeArgs};
 
 /// The version of the program.
 const VERSION: &str = "unreleased";

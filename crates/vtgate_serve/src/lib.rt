@@ -16,13 +16,18 @@ mod logins;
 mod ports;
 mod progress;
 mod schema_faults;
+pub mod script;
 mod serve;
 mod server;
+pub mod setup;
 mod statements;
 mod waits;
 
+pub use admin::{Engine, Gate, Open, router};
 pub use admin_client::{BrokenOff, LONGEST_LINE, talk};
 pub use admission::{Admission, admission_of};
 pub use connection::serve_connection;
 pub use ports::{Ports, ServeConfig, config_of};
 pub use serve::{run_serve, serve_opened};
+pub use session::{Reader, Sink, Source, Writer};
+pub use shard::{ShardLaw, ShardPass, World};

@@ -3,9 +3,9 @@ ghost use denote.Param.Send.{IsSync};
 ghost use Rattle.std.specs.Prelude.{◌≡◌, [], None, IfOk, IfErr, OnOk};
 ghost use Rattle.journal.specs.Views.{new_pass};
 ghost use Rattle.std.specs.Io.KnownBytes.{Appends};
-ghost use Rattle.opening.specs.Empty.{sharded_keyspace};
+ghost use Rattle.shard_run.specs.opening.Empty.{sharded_keyspace};
 ghost use Rattle.admin.specs.AdminAnswers.{keyspace_of};
-ghost use Rattle.vtgate_setup.specs.Statuses.{status_of};
+ghost use Rattle.vtgate_serve.specs.setup.Statuses.{status_of};
 ghost use Rattle.vtgate_serve.specs.inner.Accepted.{last_of};
 ghost use Rattle.vtgate_serve.specs.Served.{listening_text};
 
@@ -16,12 +16,12 @@ use crate::connection::{Connection, serve_socket};
 use crate::events::Start;
 use crate::progress::ServeProgress;
 use crate::server::Server;
+use crate::setup::{FAILURE, RunFault, ServeArgs};
 use crate::{census, events};
-use admin::{Administrator, widest_limits};
+use admin::{Administrator, Engine, Gate, widest_limits};
 use connection_workers::run;
 use journal::{Naming, Opener};
 use log::Log;
-use route_engine::{Engine, Gate};
 use session::Sink;
 use shard::{ShardLaw, ShardPass, World};
 use std::alloc::Global;
@@ -31,7 +31,6 @@ use std::sync::atomic::{AtomicU64, Ordering};
 use std::thread;
 use std::thread::Threads;
 use std::time::{Clock, Duration};
-use vtgate_setup::{FAILURE, RunFault, ServeArgs};
 
 /// How many connections wait for a worker.
 pub(crate) const QUEUED: usize = 64;

@@ -1,11 +1,11 @@
 //! The fault of a VSchema, logged with where it lies.
 
 use crate::events;
+use crate::setup::RunFault;
 use log::{Level, Log, log_enabled};
-use schema_place::{Place, place_of};
+use program_log::places::{Place, place_of};
 use std::alloc::Global;
 use std::str;
-use vtgate_setup::RunFault;
 
 /// Logs the fault that a VSchema's text has, if that is why a run has failed.
 pub fn tell<R: Log>(rt: &R, alloc: Global, fault: &RunFault, text: &[u8]) {

@@ -4,20 +4,23 @@ ghost use Rattle.std.specs.Io.KnownBytes.{Appends};
 ghost use Rattle.keyrange.specs.declared.KeyRange.{KeyRange};
 ghost use Rattle.vschema.specs.WellFormed.{is_vschema};
 ghost use Rattle.shard_law.specs.Entries.{most_limits};
-ghost use Rattle.opening.specs.Empty.{opening_of, FitRanges};
-ghost use Rattle.vtgate_setup.specs.ServeArgs.{ServeArgsView, IsServeCommand};
-ghost use Rattle.vtgate_setup.specs.Inputs.{HasDeclared};
-ghost use Rattle.vtgate_setup.specs.Statuses.{IsWrong, TellsNone, status_of};
+ghost use Rattle.shard_run.specs.opening.Empty.{opening_of, FitRanges};
+ghost use Rattle.vtgate_serve.specs.setup.ServeArgs.{ServeArgsView, IsServeCommand};
+ghost use Rattle.vtgate_serve.specs.setup.Inputs.{HasDeclared};
+ghost use Rattle.vtgate_serve.specs.setup.Statuses.{IsWrong, TellsNone, status_of};
 ghost use Rattle.vtgate_lines.specs.Partitions.{NamesPartition};
 ghost use Rattle.vtgate_serve.specs.Served.{HasRunServer, listening_text};
 
 use crate::ports::{Beginning, ServeConfig, bind, config_of, serve_router};
+use crate::setup::{
+    FAILURE, RunFault, SUCCESS, ServeArgs, USAGE, WRONG_WORDS, Word, ranges_of,
+    read_schema_or_text, read_words, refuse_plainly,
+};
 use crate::{events, schema_faults};
-use admin::{administered_router, widest_limits};
+use admin::{Gate, Open, administered_router, widest_limits};
 use journal::{Naming, Opened};
 use keyrange::KeyRange;
 use log::Log;
-use route_engine::{Gate, Open};
 use session::{Sink, Source};
 use shard::{ShardLaw, World};
 use std::alloc::Global;
@@ -27,10 +30,6 @@ use std::sync::Wait;
 use std::thread::Threads;
 use std::time::Clock;
 use vschema::{Hashing, VSchema};
-use vtgate_setup::{
-    FAILURE, RunFault, SUCCESS, ServeArgs, USAGE, WRONG_WORDS, Word, ranges_of,
-    read_schema_or_text, read_words, refuse_plainly,
-};
 
 /// Serves over the VSchema and the ranges in the journal that was opened. The gate wraps each shard's read. The clauses tie the VSchema,
 /// the ranges and the journal to the world, so that they are handed over one by one.

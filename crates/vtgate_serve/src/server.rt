@@ -2,8 +2,8 @@
 
 use crate::admission::Admission;
 use crate::progress::ServeProgress;
+use admin::{Engine, Gate};
 use journal::Naming;
-use route_engine::{Engine, Gate};
 use shard::World;
 use std::alloc::Global;
 

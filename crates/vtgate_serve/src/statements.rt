@@ -2,14 +2,14 @@
 
 use crate::events;
 use crate::events::Statement;
-use client_traffic::{Incoming, Replied};
+use admin::{Engine, Gate};
 use journal::Naming;
 use keyrange::KeyRange;
 use log::Log;
-use opening::sharded_keyspace;
-use route_engine::{Engine, Gate};
+use program_log::traffic::{Incoming, Replied};
 use serving::Serving;
 use shard::{Shard, World};
+use shard_run::opening::sharded_keyspace;
 use std::alloc::{AllocError, Global};
 use std::str;
 use std::time::{Clock, Instant};

@@ -3,8 +3,8 @@ use Rattle.std.specs.Prelude.{◌≡◌, ℕ, ℤ, ◌+ℤ◌, List, [], ◌∷�
 use Rattle.std.specs.Int.{w128}
 use Rattle.vt_value.specs.declared.value.Value.{Value}
 use Rattle.vt_value.specs.Values.{Row, value_at}
-use Rattle.sql_tree.specs.declared.Item.{Item}
-use Rattle.sql_tree.specs.declared.Item.TheVariants.{Column, CountRows, Count, Sum, Min, Max}
+use Rattle.operators.specs.Item.{Item}
+use Rattle.operators.specs.Item.TheVariants.{Column, CountRows, Count, Sum, Min, Max}
 use Rattle.aggregate.specs.Aggregates.{lesser, greater}
 use Rattle.aggregate.specs.Parts.{gathered, join_options, present_value, present_number}
 use Rattle.aggregate.specs.Groups.{joined_part, joined_parts, of_group, group_keys}

@@ -3,7 +3,7 @@ use Rattle.std.specs.Prelude.{ℕ, ◌+◌, ◌*◌, Bool, List, [], ◌∷◌, 
 use Rattle.std.specs.List.{list_any}
 use Rattle.vt_value.specs.declared.value.Value.{Value}
 use Rattle.vt_value.specs.Values.{Row, same_row}
-use Rattle.sql_tree.specs.declared.Item.{Item}
+use Rattle.operators.specs.Item.{Item}
 use Rattle.aggregate.specs.declared.groups.Groups.{Groups}
 use Rattle.aggregate.specs.inner.Columns.{AreGroups}
 

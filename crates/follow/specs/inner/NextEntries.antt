@@ -8,10 +8,10 @@ use Rattle.shard_run.specs.declared.ShardRecord.{ShardRecord}
 use Rattle.shard_run.specs.declared.Copied as C
 use Rattle.shard_run.specs.declared.Follow as F
 use Rattle.shard_run.specs.Runs.{Run, Opening, stored_on}
-use Rattle.shard_law.specs.Entries.{ShardView}
-use Rattle.shard_contents.specs.declared.copying.NextTable.{NextTable}
-use Rattle.shard_contents.specs.declared.copying.SourceProgress.{SourceProgress}
-use Rattle.shard_contents.specs.Copying.{IsProgress, IsEntryFor, IsCopyFor, IsNextCopy}
+use Rattle.shard.specs.Entries.{ShardView}
+use Rattle.shard.specs.NextTable.{NextTable}
+use Rattle.shard.specs.SourceProgress.{SourceProgress}
+use Rattle.shard.specs.Copying.{IsProgress, IsEntryFor, IsCopyFor, IsNextCopy}
 use Rattle.follow.specs.Steps.{HasStepped}
 use Rattle.follow.specs.Turns.{HasLookedAt}
 use Rattle.follow.specs.declared.steps.Step.{Step}

@@ -5,13 +5,13 @@ use Rattle.keyrange.specs.declared.KeyRange.{KeyRange}
 use Rattle.keyrange.specs.Ranges.{Cover}
 use Rattle.keyrange.specs.Names.{IsNamed}
 use Rattle.serving.specs.Partitions.{Seat, IsPartition, AreOf}
-use Rattle.vschema.specs.declared.schema.Place.{Place}
+use Rattle.shard.specs.Place.{Place}
 use Rattle.journal.specs.Views.{PassView}
 use Rattle.shard_run.specs.declared.ShardRecord as S
 use Rattle.shard_run.specs.declared.Entry.{Entry}
 use Rattle.shard_run.specs.declared.Mode.{Mode}
 use Rattle.shard_run.specs.Runs.{Run, Opening, IsShardOf, mode}
-use Rattle.reshard_split.specs.inner.Takes.{TakesFrom}
+use Rattle.reshard_create.specs.split.inner.Takes.{TakesFrom}
 use Rattle.reshard_create.specs.Begun.{WasSeen, TakesItsOwn}
 use Rattle.shard.specs.Seats.{seat_of}
 use Rattle.reshard_cutover.specs.TargetSources.{TargetWithSources}

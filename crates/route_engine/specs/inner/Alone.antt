@@ -1,7 +1,7 @@
 -- What a text gives over one database.
 use Rattle.std.specs.Prelude.{◌≡◌, ℕ, List, Ok}
 use Rattle.sql_tree.specs.declared.Statement.{Statement}
-use Rattle.sql_parser.specs.Grammar.{Reads}
+use Rattle.shard_calls.specs.Grammar.{Reads}
 use Rattle.vschema.specs.Database.{Database}
 use Rattle.vschema.specs.declared.schema.Typed.{Typed}
 use Rattle.vschema.specs.declared.schema.VSchema.{VSchema}

@@ -5,7 +5,7 @@ use Rattle.vt_value.specs.declared.refusal.Refusal.TheVariants.{OutOfMemory, Syn
 use Rattle.vt_value.specs.Values.{Row}
 use Rattle.sql_tree.specs.declared.Item.{Item}
 use Rattle.sql_tree.specs.declared.Statement.{Statement}
-use Rattle.sql_parser.specs.Grammar.{Reads}
+use Rattle.shard_calls.specs.Grammar.{Reads}
 use Rattle.vschema.specs.declared.schema.Query.{Query}
 use Rattle.vschema.specs.declared.schema.Typed.{Typed}
 use Rattle.vschema.specs.declared.schema.Typed.TheVariants as typed
@@ -14,7 +14,7 @@ use Rattle.vschema.specs.TypedStatement.{typed_statement}
 use Rattle.journal.specs.Views.{PassView}
 use Rattle.shard_run.specs.declared.Entry.{Entry}
 use Rattle.shard_run.specs.Runs.{Opening}
-use Rattle.shard_law.specs.declared.limits.Limits.{Limits}
+use Rattle.shard_contents.specs.Limits.{Limits}
 use Rattle.shard_calls.specs.declared.reply.Reply.{Reply}
 use Rattle.shard_calls.specs.declared.reply.Answer.TheVariants.{Rows}
 use Rattle.shard_calls.specs.declared.reply.ShardRead.{ShardRead}

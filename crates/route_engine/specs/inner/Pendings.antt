@@ -6,7 +6,7 @@ use Rattle.journal.specs.Views.{PassView}
 use Rattle.shard_run.specs.declared.Entry.{Entry}
 use Rattle.shard_run.specs.Runs.{Opening}
 use Rattle.shard_run.specs.Openings.{IsOpening}
-use Rattle.shard_law.specs.Entries.{MayFollow, commit_of}
+use Rattle.shard_contents.specs.Entries.{MayFollow, commit_of}
 use Rattle.shard_calls.specs.Transactions.{Transaction}
 use Rattle.shard_calls.specs.Pendings.{OpenView, Represents}
 

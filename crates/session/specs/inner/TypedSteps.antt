@@ -5,7 +5,7 @@ use Rattle.vschema.specs.declared.schema.Typed.TheVariants as typed
 use Rattle.vschema.specs.declared.changes.Write.{Write}
 use Rattle.vschema.specs.TypedWrites.{IsTypedWrite}
 use Rattle.shard_run.specs.Runs.{Opening}
-use Rattle.shard_calls.specs.Transactions.{TransactionStatement, Transaction}
+use Rattle.route_engine.specs.Transactions.{TransactionStatement, Transaction}
 
 -- its write is what some statement means
 abbrev pub IsTypedStep : Opening → TransactionStatement → Type 0

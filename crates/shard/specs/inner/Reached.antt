@@ -2,12 +2,12 @@
 use Rattle.std.specs.Prelude.{◌≡◌, ◌≢◌, ◌⊎◌, ℕ, Bool, true, false, ◌&&◌, ◌==◌, Option, Some, None, if◌then◌else◌}
 use Rattle.vt_value.specs.Values.{Row}
 use Rattle.vschema.specs.declared.schema.VSchema.{VSchema}
-use Rattle.keyrange.specs.Ranges.{is_before}
+use Rattle.vschema.specs.Ranges.{is_before}
 use Rattle.shard_run.specs.declared.ShardRecord.{ShardRecord}
 use Rattle.shard_run.specs.Runs.{Run, Opening}
 use Rattle.shard_run.specs.Copies.{table_at, has_copied_all}
-use Rattle.shard_law.specs.Legal.{IsTableOf}
-use Rattle.shard_law.specs.Law.{rows_copied}
+use Rattle.shard_contents.specs.Legal.{IsTableOf}
+use Rattle.shard_contents.specs.Law.{rows_copied}
 use Rattle.shard_contents.specs.Progress.{last_row}
 use Rattle.shard_contents.specs.declared.target_steps.TargetStep.{TargetStep}
 use Rattle.shard_contents.specs.declared.target_steps.TargetStep.TheVariants.{Copied}

@@ -6,8 +6,8 @@ use Rattle.vschema.specs.declared.changes.RowChange.{RowChange}
 use Rattle.vschema.specs.Checks.{is_aggregated}
 use Rattle.vschema.specs.Database.{Database, SameRows, all_applied}
 use Rattle.vschema.specs.Sources.{source_rows, SourcesThere}
-use Rattle.sql_eval.specs.Groups.{CanBeSummed}
-use Rattle.sql_eval.specs.Queries.{Allowed}
+use Rattle.shard_contents.specs.Groups.{CanBeSummed}
+use Rattle.shard_contents.specs.Queries.{Allowed}
 use Rattle.shard_run.specs.declared.ShardRecord.{ShardRecord}
 use Rattle.shard_run.specs.declared.Entry.{Entry}
 use Rattle.shard_run.specs.Openings.{row_count}
@@ -15,7 +15,7 @@ use Rattle.shard_run.specs.Runs.{Opening, shard_rows, mode, answers_queries, ent
 use Rattle.shard_contents.specs.declared.outcomes.ReadOutcome.{ReadOutcome}
 use Rattle.shard_contents.specs.Shards.{AnswersQuery}
 use Rattle.shard_contents.specs.Transactions.{PendingView, IsClear}
-use Rattle.shard_store.specs.Stores.{StoreView}
+use Rattle.shard_contents.specs.Stores.{StoreView}
 use Rattle.shard.specs.declared.snapshot.Snapshot.{Snapshot}
 use Rattle.shard.specs.declared.snapshot.BegunRead.{BegunRead}
 use Rattle.shard.specs.declared.snapshot.BegunRead.TheVariants.{Answered, Begun}

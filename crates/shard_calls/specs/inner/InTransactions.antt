@@ -11,13 +11,13 @@ use Rattle.vschema.specs.declared.changes.Write.{Write}
 use Rattle.planner.specs.declared.routes.Route.{Route}
 use Rattle.journal.specs.Views.{PassView}
 use Rattle.serving.specs.Partitions.{Seat, IsPartition}
-use Rattle.shard_run.specs.declared.ShardRecord.{ShardRecord}
-use Rattle.shard_run.specs.declared.Entry.{Entry}
-use Rattle.shard_run.specs.Runs.{Opening}
-use Rattle.shard_law.specs.Legal.{IsOnItsSlot}
-use Rattle.shard_law.specs.declared.limits.Limits.{Limits}
-use Rattle.shard_law.specs.Entries.{HasLooked}
-use Rattle.shard_contents.specs.Transactions.{PendingView, IsClear, HasReadIn, HasWrittenIn, HasCommittedAll, IsReadRefusal, IsWriteRefusal, IsCommitAllRefusal}
+use Rattle.shard.specs.ShardRecord.{ShardRecord}
+use Rattle.shard.specs.Entry.{Entry}
+use Rattle.shard.specs.Runs.{Opening}
+use Rattle.shard.specs.Legal.{IsOnItsSlot}
+use Rattle.shard.specs.Limits.{Limits}
+use Rattle.shard.specs.Entries.{HasLooked}
+use Rattle.shard.specs.Transactions.{PendingView, IsClear, HasReadIn, HasWrittenIn, HasCommittedAll, IsReadRefusal, IsWriteRefusal, IsCommitAllRefusal}
 use Rattle.shard_calls.specs.declared.reply.Reply.{Reply}
 use Rattle.shard_calls.specs.declared.reply.ShardRead.{ShardRead}
 use Rattle.shard_calls.specs.Answers.{needed, HasServed}

@@ -4,31 +4,31 @@ use Rattle.std.specs.List.{AllByRecursion, AllZip}
 use mathlib.Core.List.{IsPrefix}
 use Rattle.std.specs.declared.alloc.AllocError.{AllocError}
 use Rattle.vt_value.specs.Values.{Row}
-use Rattle.operators.specs.Orders.{row_cmp}
+use Rattle.planner.specs.Orders.{row_cmp}
 use Rattle.vschema.specs.declared.schema.Table.{Table}
 use Rattle.vschema.specs.declared.schema.Query.{Query}
 use Rattle.planner.specs.declared.plans.Plan.{Plan}
 use Rattle.planner.specs.Plans.{piece_of, CanJoin, Finishes}
 use Rattle.journal.specs.Views.{PassView, new_pass}
-use Rattle.shard_run.specs.declared.ShardRecord.{ShardRecord}
-use Rattle.shard_run.specs.declared.Entry.{Entry}
-use Rattle.shard_run.specs.Runs.{Opening}
-use Rattle.shard_contents.specs.declared.outcomes.ReadOutcome.{ReadOutcome}
-use Rattle.shard_contents.specs.declared.outcomes.ReadOutcome.TheVariants.{Rows, NotServing}
-use Rattle.shard_law.specs.Legal.{IsOnItsSlot}
+use Rattle.shard.specs.ShardRecord.{ShardRecord}
+use Rattle.shard.specs.Entry.{Entry}
+use Rattle.shard.specs.Runs.{Opening}
+use Rattle.shard.specs.ReadOutcome.{ReadOutcome}
+use Rattle.shard.specs.ReadOutcome.TheVariants.{Rows, NotServing}
+use Rattle.shard.specs.Legal.{IsOnItsSlot}
 use Rattle.vschema.specs.declared.schema.Place.{Place}
 use Rattle.serving.specs.Partitions.{Seat, IsPartition}
-use Rattle.shard_law.specs.Entries.{HasLooked}
-use Rattle.shard_contents.specs.Shards.{AnswersQuery}
+use Rattle.shard.specs.Entries.{HasLooked}
+use Rattle.shard.specs.Shards.{AnswersQuery}
 use Rattle.shard_calls.specs.declared.reply.ShardRead.{ShardRead}
 use Rattle.shard_calls.specs.declared.reply.Tried.{Tried}
 use Rattle.shard_calls.specs.declared.reply.Tried.TheVariants.{Done, Again}
 use Rattle.vschema.specs.declared.changes.Write.{Write}
-use Rattle.sql_eval.specs.Writes.{written_table}
+use Rattle.shard.specs.Writes.{written_table}
 use Rattle.planner.specs.Routes.{table_at, write_route}
-use Rattle.shard_law.specs.declared.limits.Limits.{Limits}
-use Rattle.shard_contents.specs.declared.outcomes.CommitOutcome.{CommitOutcome}
-use Rattle.shard_contents.specs.declared.outcomes.CommitOutcome.TheVariants as c
+use Rattle.shard.specs.Limits.{Limits}
+use Rattle.shard.specs.CommitOutcome.{CommitOutcome}
+use Rattle.shard.specs.CommitOutcome.TheVariants as c
 use Rattle.shard_calls.specs.declared.reply.Answer.TheVariants.{Count}
 use Rattle.shard_calls.specs.Answers.{needed, HasGoneOn, HasGone, HasServed, HasWritten, IsHeldUp, is_writable}
 

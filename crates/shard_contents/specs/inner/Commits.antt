@@ -6,8 +6,8 @@ use Rattle.vschema.specs.declared.schema.VSchema.{VSchema}
 use Rattle.vschema.specs.declared.changes.Write.{Write}
 use Rattle.vschema.specs.declared.changes.RowChange.{RowChange}
 use Rattle.vschema.specs.Database.{Database}
-use Rattle.sql_eval.specs.Writes.{changes_of}
-use Rattle.shard_run.specs.Openings.{row_count}
+use Rattle.shard_store.specs.Writes.{changes_of}
+use Rattle.shard_law.specs.Openings.{row_count}
 use Rattle.shard_law.specs.declared.limits.Limits.{Limits}
 use Rattle.shard_contents.specs.Commits.{inserted_rows}
 

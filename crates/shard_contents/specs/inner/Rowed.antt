@@ -2,8 +2,8 @@
 use Rattle.std.specs.Prelude.{ℕ, ◌&&◌, ◌==◌, Option, Some, None, if◌then◌else◌}
 use Rattle.vt_value.specs.Values.{Row}
 use Rattle.vschema.specs.declared.schema.VSchema.{VSchema}
-use Rattle.keyrange.specs.Ranges.{is_before}
-use Rattle.shard_run.specs.Copies.{table_at}
+use Rattle.vschema.specs.Ranges.{is_before}
+use Rattle.shard_law.specs.Copies.{table_at}
 use Rattle.shard_contents.specs.declared.target_steps.TargetStep.{TargetStep}
 use Rattle.shard_contents.specs.declared.target_steps.TargetStep.TheVariants.{Followed, Copied}
 

@@ -1,7 +1,7 @@
 -- Entries that change a mode at most.
 use Rattle.std.specs.Prelude.{Bool, true, false}
-use Rattle.shard_run.specs.declared.Event.{Event}
-use Rattle.shard_run.specs.declared.Event.TheVariants.{Commit, Follow, Copy}
+use Rattle.shard_law.specs.Event.{Event}
+use Rattle.shard_law.specs.Event.TheVariants.{Commit, Follow, Copy}
 
 -- an entry that changes a mode at most: nothing is stored, and rows stay
 abbrev pub is_plain : Event → Bool

@@ -6,7 +6,7 @@ use Rattle.vschema.specs.declared.changes.RowChange.{RowChange}
 use Rattle.vschema.specs.declared.changes.RowChange.TheVariants.{Added, Replaced, Removed}
 use Rattle.vschema.specs.Schema.{key_of}
 use Rattle.vschema.specs.Database.{same_row, without}
-use Rattle.sql_eval.specs.Conditions.{is_kept}
+use Rattle.shard_store.specs.Conditions.{is_kept}
 use Rattle.shard_contents.specs.declared.transaction_rows.RowSelection.{RowSelection}
 use Rattle.shard_contents.specs.declared.transaction_rows.RowSelection.TheVariants.{All, Kept, Keyed}
 

@@ -2,7 +2,7 @@
 use Rattle.std.specs.Prelude.{Bool, false, [], ◌∷◌, Option, Some, None}
 use Rattle.vt_value.specs.declared.value.Value.{Value}
 use Rattle.vt_value.specs.Values.{Row}
-use Rattle.vschema.specs.Database.{same_row}
+use Rattle.sql_eval.specs.Database.{same_row}
 use Rattle.shard_store.specs.declared.key.RowKey.{RowKey}
 
 -- the key of the value alone: the least that begins with it

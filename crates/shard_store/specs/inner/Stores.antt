@@ -2,10 +2,10 @@
 use Rattle.std.specs.Prelude.{◌≡◌, ◌<◌, ℕ, List}
 use Rattle.std.specs.List.{AllByRecursion}
 use Rattle.vt_value.specs.Values.{Row}
-use Rattle.vschema.specs.declared.changes.RowChange.{RowChange}
-use Rattle.vschema.specs.declared.changes.Write.{Write}
-use Rattle.vschema.specs.declared.changes.Write.TheVariants.{Insert}
-use Rattle.vschema.specs.Database.{Database, changed_table, all_applied}
+use Rattle.sql_eval.specs.RowChange.{RowChange}
+use Rattle.sql_eval.specs.Write.{Write}
+use Rattle.sql_eval.specs.Write.TheVariants.{Insert}
+use Rattle.sql_eval.specs.Database.{Database, changed_table, all_applied}
 
 -- changes that do in any database what others do, in no table beyond those of the others
 pub record DoTheSame (changes others : List RowChange) : Type 0 where

@@ -5,7 +5,7 @@ use Rattle.vt_value.specs.declared.value.Value.TheVariants.{Null, Int}
 use Rattle.vt_value.specs.Values.{Row, value_at, is_null}
 use Rattle.sql_tree.specs.declared.Item.{Item}
 use Rattle.sql_tree.specs.declared.Item.TheVariants.{Column, CountRows, Count, Sum, Min, Max}
-use Rattle.operators.specs.Slices.{columns_of}
+use Rattle.aggregate.specs.Slices.{columns_of}
 use Rattle.vschema.specs.declared.schema.Query.{Query}
 use Rattle.sql_eval.specs.Grouping.{aggregates_of, grouping_of, grouped}
 

@@ -6,7 +6,8 @@ use Rattle.vt_value.specs.declared.value.Comparison.{Comparison}
 use Rattle.vt_value.specs.declared.value.Comparison.TheVariants.{Eq}
 use Rattle.sql_lexer.specs.declared.token.Token.{Token}
 use Rattle.sql_lexer.specs.declared.token.Keyword.TheVariants as k
-use Rattle.sql_lexer.specs.declared.token.Sign.TheVariants.{LeftParenthesis, RightParenthesis, Star, Comma, Semicolon, Minus, Dot}
+use Rattle.sql_lexer.specs.declared.token.Sign.TheVariants.{LeftParenthesis, RightParenthesis, Star, Comma, Minus, Dot}
+use Rattle.sql_lexer.specs.Endings.{is_end}
 use Rattle.sql_lexer.specs.Lexemes.{Lexeme, keyword, identifier, number, text, sign, operator, said_by}
 use Rattle.sql_lexer.specs.inner.Results.{◌>>=◌}
 use Rattle.sql_tree.specs.declared.ColumnName.{ColumnName}
@@ -390,11 +391,6 @@ statement_at (keyword k.Insert ∷ keyword k.Into ∷ rest) = insert_at rest >>=
 statement_at (keyword k.Update ∷ rest) = update_at rest >>= λ x. Some (Update x.0, x.1)
 statement_at (keyword k.Delete ∷ rest) = delete_at rest >>= λ x. Some (Delete x.0, x.1)
 statement_at ts = control_at ts
-
-abbrev pub is_end : Lexemes → Bool
-is_end [] = true
-is_end (sign Semicolon ∷ []) = true
-is_end _ = false
 
 abbrev pub is_text : Statement × Lexemes → Bool
 is_text x = is_end x.1 && nat_le (literals_of x.0) max_literals && not (qualifies_outside_select x.0)

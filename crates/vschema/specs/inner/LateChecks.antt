@@ -1,18 +1,13 @@
 -- The last checks of a query, by the parts of it that they ask for.
-use Rattle.std.specs.Prelude.{ℕ, Bool, true, false, not, ◌||◌, ◌==◌, List, [], ◌∷◌, Option, Some, None}
+use Rattle.std.specs.Prelude.{ℕ, Bool, true, false, not, ◌||◌, ◌==◌, List, Option, Some, None}
 use Rattle.std.specs.List.{list_any}
 use Rattle.sql_tree.specs.declared.Item.{Item}
 use Rattle.sql_tree.specs.declared.Key.{Key}
 use Rattle.vschema.specs.declared.schema.Join.{Join}
 use Rattle.vschema.specs.declared.schema.Table.{Table}
 use Rattle.vschema.specs.Scopes.{Scope}
-use Rattle.vschema.specs.Checks.{has_number, is_aggregate, is_ungrouped}
+use Rattle.vschema.specs.Checks.{has_number, is_ungrouped}
 use Rattle.vschema.specs.Joins.{takes_columns}
-
--- these items or these columns of GROUP BY make a query an aggregated one
-abbrev pub aggregates : List (Item ℕ) → List ℕ → Bool
-aggregates items [] = list_any is_aggregate items
-aggregates items (n ∷ ns) = true
 
 -- a plain column is shown, or ordered by, that isn't in GROUP BY
 abbrev pub shows_others : List (Item ℕ) → List ℕ → List (Key ℕ) → Bool

@@ -1,5 +1,5 @@
 use Rattle.std.proofs.Common.{rules, ◌≡◌, Some, arith}
-use Rattle.opening.specs.Empty.{sharded_keyspace}
+use Rattle.shard_run.specs.opening.Empty.{sharded_keyspace}
 use Rattle.admin.proofs.Free.{ordinal_below}
 use Rattle.admin.proofs.administering.workflow_context.Goals as goal
 

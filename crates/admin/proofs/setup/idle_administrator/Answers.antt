@@ -4,8 +4,8 @@ use Rattle.journal.specs.Views.{SeatView}
 use Rattle.shard_run.specs.declared.Entry.{Entry}
 use Rattle.shard_run.specs.Runs.{Opening}
 use Rattle.reshard.specs.Workflows.{WorkflowView}
-use Rattle.reshard_create.specs.Configs.{IsFree}
-use Rattle.opening.specs.Empty.{empty_shards, opening_of}
+use Rattle.reshard.specs.Configs.{IsFree}
+use Rattle.shard_run.specs.opening.Empty.{empty_shards, opening_of}
 use Rattle.admin.specs.Idle.{idle, idle_in, free_slots}
 use Rattle.admin.proofs.Free.{free_after, ordinal_below, their_slots}
 use Rattle.admin.proofs.setup.idle_administrator.Goals as goal

@@ -1,7 +1,7 @@
 use Rattle.std.proofs.Common.{◌≡◌, ◌∙◌, ℕ, List, Option, Some, sym, ap}
 use Rattle.sql_lexer.proofs.Options.{some_is}
-use Rattle.client_tokens.specs.declared.token.Token.{Token}
-use Rattle.client_tokens.specs.Tokens.{HasTokens}
+use Rattle.client_statements.specs.declared.tokens.token.Token.{Token}
+use Rattle.client_statements.specs.tokens.Tokens.{HasTokens}
 use Rattle.client_statements.specs.declared.statement.ClientStatement.{ClientStatement}
 use Rattle.client_statements.specs.Asks.{Asks}
 use Rattle.client_statements.specs.Asks as a

@@ -1,7 +1,7 @@
 use Rattle.std.proofs.Common.{◌≡◌, ◌+◌, ◌-◌, ◌<◌, ◌∙◌, ℕ, List, Some, true, false, suc, length, subst, sym, ap, arith}
 use Rattle.std.proofs.lemmas.Result.{err_from_is_err_and}
 use Rattle.sql_lexer.specs.inner.Results.{Fails}
-use Rattle.client_tokens.specs.Pieces.{lexemes_of}
+use Rattle.client_statements.specs.tokens.Pieces.{lexemes_of}
 use Rattle.client_statements.specs.declared.statement.SelectItem.{SelectItem}
 use Rattle.client_statements.specs.Grammar.{items_at, ends_select, begins_with_comma}
 use Rattle.client_statements.proofs.Lists.{item_fails, last_item, wrong_after_item, more_items, no_items}

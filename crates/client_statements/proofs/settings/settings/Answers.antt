@@ -4,7 +4,7 @@ use Rattle.std.proofs.lemmas.Bool.{eqb-true}
 use Rattle.std.proofs.lemmas.Bool.Decides.{nat_tests}
 use Rattle.std.proofs.lemmas.Result.{err_from_is_err_and}
 use Rattle.sql_lexer.specs.inner.Results.{Fails}
-use Rattle.client_tokens.specs.Pieces.{lexemes_of}
+use Rattle.client_statements.specs.tokens.Pieces.{lexemes_of}
 use Rattle.client_statements.specs.Grammar.{settings_at}
 use Rattle.client_statements.proofs.Lists.{setting_fails, last_setting, comma_fails, more_settings, no_settings}
 use Rattle.client_statements.proofs.settings.settings.Goals as goal

@@ -1,5 +1,5 @@
 use Rattle.std.proofs.Common.{◌≡◌, ◌-◌, None, length}
-use Rattle.client_tokens.specs.Pieces.{lexemes_of}
+use Rattle.client_statements.specs.tokens.Pieces.{lexemes_of}
 use Rattle.client_statements.specs.Grammar.{settings_at}
 use Rattle.client_statements.proofs.settings.settings.Given as goal
 

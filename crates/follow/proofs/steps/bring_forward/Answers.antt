@@ -6,8 +6,8 @@ use Rattle.shard_run.specs.declared.ShardRecord.{ShardRecord}
 use Rattle.shard_run.specs.declared.Mode.TheVariants.{Following}
 use Rattle.shard_run.specs.Runs.{mode, shard_rows}
 use Rattle.shard_run.specs.Openings.{row_count}
-use Rattle.shard_law.specs.Law.{SourcesApart}
-use Rattle.shard_law.specs.Entries.{ShardView}
+use Rattle.shard.specs.Law.{SourcesApart}
+use Rattle.shard.specs.Entries.{ShardView}
 use Rattle.follow.specs.declared.steps.Step.TheVariants.{Copied, Followed}
 use Rattle.follow.specs.Steps.{HasMoved, IsFull}
 use Rattle.follow.specs.Turns.{IsOneStep, IsNoStep}

@@ -6,9 +6,9 @@ use Rattle.shard_run.specs.declared.ShardRecord.{ShardRecord}
 use Rattle.shard_run.specs.declared.Entry.{Entry}
 use Rattle.shard_run.specs.Runs.{Run, shard_rows}
 use Rattle.shard_run.specs.Openings.{row_count}
-use Rattle.shard_law.specs.Law.{SourcesApart}
+use Rattle.shard.specs.Law.{SourcesApart}
 use Rattle.vt_value.specs.declared.refusal.Refusal.TheVariants.{OutOfMemory, ShardFull}
-use Rattle.shard_contents.proofs.Legality.{legal_is}
+use Rattle.shard.proofs.Legality.{legal_is}
 use Rattle.follow.specs.declared.steps.Step.TheVariants.{Followed}
 use Rattle.follow.specs.Steps.{HasMoved, IsFull}
 use Rattle.follow.specs.inner.NextEntries.{HasTaken, IsOneLook}

@@ -1,9 +1,9 @@
 use Rattle.std.proofs.Common.{◌<◌, inr, length, sym, ap, subst}
 use Rattle.std.specs.List.{AllByRecursion}
-use Rattle.vschema.specs.declared.schema.VSchema.{VSchema}
-use Rattle.vschema.specs.declared.changes.RowChange.{RowChange}
-use Rattle.vschema.specs.Database.{changed_table}
-use Rattle.shard_contents.proofs.Legality.{legal_is}
+use Rattle.shard.specs.VSchema.{VSchema}
+use Rattle.shard.specs.RowChange.{RowChange}
+use Rattle.shard.specs.Database.{changed_table}
+use Rattle.shard.proofs.Legality.{legal_is}
 use Rattle.shard_run.specs.declared.Follow as F
 use Rattle.shard_run.specs.declared.Event.TheVariants.{Follow}
 use Rattle.follow.specs.inner.NextEntries.{entry}

@@ -1,7 +1,7 @@
 use Rattle.std.proofs.Common.{◌≡◌, ℕ, Some, sym, subst, ◌∙◌}
 use Rattle.shard_run.specs.declared.ShardRecord.{ShardRecord}
 use Rattle.shard_run.specs.Copies.{position}
-use Rattle.shard_contents.specs.Copying.{IsProgress, IsEntryFor, IsCopyFor}
+use Rattle.shard.specs.Copying.{IsProgress, IsEntryFor, IsCopyFor}
 use Rattle.follow.specs.inner.NextEntries.{NoneLeft, entry, rows, nothing}
 use Rattle.follow.proofs.Moves.{at_some, at_not_some}
 use Rattle.follow.proofs.steps.next_for.Goals as goal

@@ -4,7 +4,7 @@ use Rattle.std.specs.Sync.Mutex.{mutex_guard_value}
 use Rattle.journal.specs.Runs.{IsLegal}
 use Rattle.shard_run.specs.declared.ShardRecord.{ShardRecord}
 use Rattle.shard_run.specs.Runs.{Run, mode, answers_queries}
-use Rattle.shard_law.specs.Entries.{ShardView, MayFollow}
+use Rattle.shard.specs.Entries.{ShardView, MayFollow}
 use Rattle.shard.proofs.LockedLooks.{LookedAs, looked_as, mode_here}
 use Rattle.follow.specs.inner.NextEntries.{IsNextForTarget}
 use Rattle.follow.proofs.Onward.{still, looked}

@@ -2,7 +2,7 @@ use Rattle.std.proofs.Common.{◌∙◌, ap, sym}
 use Rattle.std.specs.List.{list_any}
 use Rattle.vt_value.specs.declared.value.Value.{Value}
 use Rattle.keyrange.specs.Ranges.{has_id}
-use Rattle.vschema_json.proofs.Lists.{list_any_map}
+use Rattle.vschema.proofs.VschemaJsonLists.{list_any_map}
 use Rattle.planner.specs.declared.members.InValue.{InValue}
 use Rattle.planner.specs.Routes.{id_of}
 use Rattle.planner.proofs.taking.has_one_among.Goals as goal

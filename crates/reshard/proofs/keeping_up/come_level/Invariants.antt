@@ -1,4 +1,4 @@
-use Rattle.follow.specs.Steps.{IsOnward}
+use Rattle.reshard_create.specs.FollowSteps.{IsOnward}
 use Rattle.reshard.proofs.keeping_up.come_level.Given as goal
 
 -- so far the targets came forward

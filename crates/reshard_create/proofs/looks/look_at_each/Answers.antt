@@ -1,7 +1,7 @@
 use Rattle.std.proofs.Common.{subst}
 use Rattle.std.specs.List.{AllByRecursion}
 use Rattle.std.specs.Sync.Mutex.{mutex_guard_value}
-use Rattle.shard_contents.proofs.Progress.{take_whole}
+use Rattle.shard.proofs.Progress.{take_whole}
 use Rattle.reshard_cutover.proofs.Onward.{onward_trans}
 use Rattle.reshard_create.specs.Begun.{IsNotFollowing}
 use Rattle.reshard_create.specs.inner.Created.{HasSeen}

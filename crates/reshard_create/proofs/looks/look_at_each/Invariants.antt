@@ -1,6 +1,6 @@
 use Rattle.std.proofs.Common.{take}
 use Rattle.std.specs.List.{AllByRecursion}
-use Rattle.follow.specs.Steps.{IsOnward}
+use Rattle.reshard_cutover.specs.FollowSteps.{IsOnward}
 use Rattle.reshard_create.specs.Begun.{IsNotFollowing}
 use Rattle.reshard_create.specs.inner.Created.{HasSeen}
 use Rattle.reshard_create.proofs.looks.look_at_each.Given as goal

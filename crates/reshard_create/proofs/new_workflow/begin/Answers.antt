@@ -5,8 +5,8 @@ use Rattle.keyrange.specs.declared.KeyRange.{KeyRange}
 use Rattle.keyrange.specs.Names.{IsNamed}
 use Rattle.shard_run.specs.declared.ShardRecord.{ShardRecord}
 use Rattle.vt_value.specs.declared.refusal.Refusal.TheVariants.{OutOfMemory}
-use Rattle.reshard_split.specs.Choices.{begin_cmp}
-use Rattle.reshard_split.specs.Splits.{AreOverlapped}
+use Rattle.reshard_create.specs.split.Choices.{begin_cmp}
+use Rattle.reshard_create.specs.split.Splits.{AreOverlapped}
 use Rattle.reshard_create.specs.inner.Created.{IsMadeOf}
 use Rattle.reshard_create.proofs.Begins.{map_twice, all_permuted, homes_here, ranges_in_order, covered_here, split_here, begun_here, next_here}
 use Rattle.reshard_create.proofs.Unfit.{residual, create_memory}

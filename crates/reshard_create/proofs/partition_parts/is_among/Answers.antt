@@ -2,7 +2,7 @@ use Rattle.std.proofs.Common.{◌≡◌, ◌∙◌, ◌++◌, ◌∷◌, [], ap,
 use Rattle.std.specs.List.{AllByRecursion}
 use Rattle.std.proofs.lemmas.List.{take_more}
 use Rattle.keyrange.specs.declared.KeyRange.{KeyRange}
-use Rattle.reshard_split.proofs.Lists.{all_push, not_there, whole}
+use Rattle.reshard_create.proofs.split.Lists.{all_push, not_there, whole}
 use Rattle.reshard_create.proofs.Named.{differs}
 use Rattle.reshard_create.proofs.partition_parts.is_among.Goals as goal
 

@@ -2,7 +2,7 @@ use Rattle.std.proofs.Common.{◌==◌, List, length, map, sym, ap, subst, ◌�
 use Rattle.std.proofs.lemmas.Bool.{eqb-true, false≢true}
 use Rattle.keyrange.specs.declared.KeyRange.{KeyRange}
 use Rattle.serving.specs.Partitions.{AreOf}
-use Rattle.follow.proofs.Moves.{at_some, at_not_some, if_some}
+use Rattle.reshard_cutover.proofs.Moves.{at_some, at_not_some, if_some}
 use Rattle.vt_value.specs.declared.refusal.Refusal.TheVariants.{OutOfMemory}
 use Rattle.reshard_create.specs.Begun.{none_named}
 use Rattle.reshard_create.proofs.Unfit.{no_items, residual, create_memory, sources_are, not_all_there, one_away, taken_home, tested}

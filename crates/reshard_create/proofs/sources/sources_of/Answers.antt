@@ -1,6 +1,6 @@
 use Rattle.std.proofs.Common.{sym, ◌∙◌}
-use Rattle.shard_contents.proofs.Progress.{take_whole}
-use Rattle.follow.proofs.Moves.{at_some, at_not_some}
+use Rattle.shard.proofs.Progress.{take_whole}
+use Rattle.reshard_cutover.proofs.Moves.{at_some, at_not_some}
 use Rattle.reshard_cutover.proofs.Onward.{onward_trans}
 use Rattle.reshard_create.specs.Begun.{IsAway}
 use Rattle.reshard_create.proofs.SeenShards.{has_since}

@@ -1,7 +1,7 @@
 use Rattle.std.proofs.Common.{◌≡◌, map, take}
 use Rattle.std.specs.List.{AllByRecursion}
 use Rattle.serving.specs.Partitions.{Seat}
-use Rattle.follow.specs.Steps.{IsOnward}
+use Rattle.reshard_cutover.specs.FollowSteps.{IsOnward}
 use Rattle.reshard_create.specs.Begun.{WasSeen, IsServing}
 use Rattle.reshard_create.proofs.sources.sources_of.Given as goal
 

@@ -1,6 +1,6 @@
 use Rattle.std.proofs.Common.{◌≡◌, ℕ, ◌+◌, List, [], map, ap, ◌∙◌, arith}
 use Rattle.shard_run.specs.declared.ShardRecord.{ShardRecord}
-use Rattle.reshard_split.specs.Splits.{AreOverlapped}
+use Rattle.reshard_create.specs.split.Splits.{AreOverlapped}
 use Rattle.reshard_cutover.proofs.Retiring.{item_of}
 use Rattle.reshard_create.proofs.Making.{made_next, seats_next}
 use Rattle.reshard_create.proofs.Seats.{taken_next}

@@ -2,7 +2,7 @@ use Rattle.std.proofs.Common.{◌≡◌, ◌≤◌, ◌++◌, length, map, rever
 use Rattle.std.specs.Prelude.{vec_len, vec_capacity}
 use Rattle.std.specs.List.{AllByRecursion}
 use Rattle.reshard_create.specs.Configs.{IsFree}
-use Rattle.reshard_split.specs.Splits.{target_seats}
+use Rattle.reshard_create.specs.split.Splits.{target_seats}
 use Rattle.reshard_create.specs.inner.Created.{IsMadeOf}
 use Rattle.reshard_create.proofs.targets.make_targets.Given as goal
 

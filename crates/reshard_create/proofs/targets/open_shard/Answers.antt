@@ -1,6 +1,6 @@
 use denote.Param.Send.{sendable}
 use Rattle.std.proofs.Common.{ℕ, sym, ap, subst, ◌∙◌, ◌++◌, [], length, replicate}
-use Rattle.vschema.specs.declared.schema.VSchema.{VSchema}
+use Rattle.shard.specs.VSchema.{VSchema}
 use Rattle.std.specs.List.{AllByRecursion}
 use Rattle.std.specs.Option.{option_to_list}
 use Rattle.shard_run.proofs.Sent.{entry_send}

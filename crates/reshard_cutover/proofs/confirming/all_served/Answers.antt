@@ -1,5 +1,5 @@
 use Rattle.std.proofs.Common.{map, take}
-use Rattle.shard_law.proofs.Lists.{all-weaker}
+use Rattle.shard_contents.proofs.Lists.{all-weaker}
 use Rattle.shard_run.specs.declared.Event.TheVariants.{Serve}
 use Rattle.reshard_cutover.specs.Looks.{HasBegunToServe}
 use Rattle.reshard_cutover.specs.TargetSources.{TargetWithSources}

@@ -4,7 +4,7 @@ use Rattle.std.specs.Sync.Mutex.{mutex_guard_value}
 use Rattle.shard_run.specs.declared.ShardRecord.{ShardRecord}
 use Rattle.shard_run.specs.declared.Event.TheVariants.{Retire}
 use Rattle.shard_run.specs.Runs.{Run, stored_on}
-use Rattle.shard.proofs.LockedLooks.{LookedAs, looked_as, stored_stays}
+use Rattle.follow.proofs.LockedLooks.{LookedAs, looked_as, stored_stays}
 use Rattle.follow.specs.Steps.{IsOnward}
 use Rattle.reshard_cutover.specs.Steps.{HasEntry}
 use Rattle.reshard_cutover.proofs.Onward.{looked_first, entry_later}

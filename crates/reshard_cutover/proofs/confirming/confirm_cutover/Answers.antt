@@ -1,5 +1,5 @@
 use Rattle.std.proofs.Common.{map}
-use Rattle.shard_law.proofs.Lists.{all-weaker}
+use Rattle.shard_contents.proofs.Lists.{all-weaker}
 use Rattle.shard_run.specs.declared.Event.TheVariants.{Retire}
 use Rattle.reshard_cutover.specs.Looks.{IsGone}
 use Rattle.reshard_cutover.proofs.Onward.{entry_later}

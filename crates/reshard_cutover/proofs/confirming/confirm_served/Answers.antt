@@ -2,10 +2,10 @@ use Rattle.std.proofs.Common.{◌≡◌, [], sym, ap, subst, ◌∙◌, rules}
 use Rattle.std.specs.Sync.Mutex.{mutex_guard_value}
 use Rattle.shard_run.specs.declared.Mode.TheVariants.{Serving}
 use Rattle.shard_run.specs.Runs.{Run, mode}
-use Rattle.shard_law.specs.Legal.{IsOnItsSlot}
-use Rattle.shard_law.specs.Entries.{ShardView}
+use Rattle.shard_contents.specs.Legal.{IsOnItsSlot}
+use Rattle.shard_contents.specs.Entries.{ShardView}
 use Rattle.shard_contents.proofs.Legality.{legal_is}
-use Rattle.shard.proofs.LockedLooks.{LookedAs, looked_as, mode_stays}
+use Rattle.follow.proofs.LockedLooks.{LookedAs, looked_as, mode_stays}
 use Rattle.follow.specs.Steps.{IsOnward}
 use Rattle.reshard_cutover.specs.Looks.{HasBegunToServe}
 use Rattle.reshard_cutover.proofs.Onward.{looked_first}

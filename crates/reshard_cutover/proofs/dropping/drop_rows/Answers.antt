@@ -2,8 +2,8 @@ use Rattle.std.proofs.Common.{◌≡◌, sym, subst, rules}
 use Rattle.std.specs.Sync.Mutex.{mutex_guard_value}
 use Rattle.shard_run.specs.declared.Mode.TheVariants.{Retired}
 use Rattle.shard_run.specs.Runs.{mode}
-use Rattle.shard_law.specs.Entries.{ShardView}
-use Rattle.shard.proofs.LockedLooks.{LookedAs, looked_as, mode_here, mode_seen}
+use Rattle.shard_contents.specs.Entries.{ShardView}
+use Rattle.follow.proofs.LockedLooks.{LookedAs, looked_as, mode_here, mode_seen}
 use Rattle.follow.specs.Steps.{IsOnward}
 use Rattle.reshard_cutover.proofs.Onward.{looked_first}
 use Rattle.reshard_cutover.proofs.dropping.drop_rows.Goals as goal

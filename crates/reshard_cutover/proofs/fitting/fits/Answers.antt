@@ -5,8 +5,8 @@ use Rattle.shard_run.specs.declared.ShardRecord.{ShardRecord}
 use Rattle.shard_run.specs.declared.Mode.TheVariants.{Following, Retired}
 use Rattle.shard_run.specs.Runs.{Run, mode, shard_rows}
 use Rattle.shard_run.specs.Openings.{row_count}
-use Rattle.shard_law.specs.Entries.{ShardView}
-use Rattle.shard.proofs.LockedLooks.{LookedAs, looked_as, mode_here}
+use Rattle.shard_contents.specs.Entries.{ShardView}
+use Rattle.follow.proofs.LockedLooks.{LookedAs, looked_as, mode_here}
 use Rattle.follow.specs.Steps.{IsOnward}
 use Rattle.reshard_cutover.proofs.Onward.{looked_first}
 use Rattle.reshard_cutover.proofs.Thaws.{look_alone}

@@ -4,8 +4,8 @@ use Rattle.shard_run.specs.declared.ShardRecord.{ShardRecord}
 use Rattle.shard_run.specs.declared.Event.TheVariants.{Freeze}
 use Rattle.shard_run.specs.declared.Mode.TheVariants.{Serving, Retired}
 use Rattle.shard_run.specs.Runs.{Run, mode, stored_on, entries_on}
-use Rattle.shard_law.specs.Entries.{ShardView}
-use Rattle.shard.proofs.LockedLooks.{LookedAs, looked_as, mode_here}
+use Rattle.shard_contents.specs.Entries.{ShardView}
+use Rattle.follow.proofs.LockedLooks.{LookedAs, looked_as, mode_here}
 use Rattle.follow.specs.Steps.{IsOnward}
 use Rattle.follow.proofs.Turns.{looked_at, looked_then}
 use Rattle.reshard_cutover.proofs.Onward.{looked_first, changed, stored_same}

@@ -5,11 +5,11 @@ use Rattle.shard_run.specs.declared.Event.TheVariants.{Serve}
 use Rattle.shard_run.specs.declared.Mode.TheVariants.{Following}
 use Rattle.shard_run.specs.Runs.{mode, entries_on, shard_rows}
 use Rattle.shard_run.specs.Openings.{row_count}
-use Rattle.shard_law.specs.Legal.{MayServe}
-use Rattle.shard_law.specs.Entries.{ShardView}
+use Rattle.shard_contents.specs.Legal.{MayServe}
+use Rattle.shard_contents.specs.Entries.{ShardView}
 use Rattle.shard_contents.proofs.Legality.{legal_is}
 use Rattle.shard_contents.proofs.States.{held-same}
-use Rattle.shard.proofs.LockedLooks.{LookedAs, looked_as, mode_here}
+use Rattle.follow.proofs.LockedLooks.{LookedAs, looked_as, mode_here}
 use Rattle.follow.specs.Steps.{IsOnward}
 use Rattle.reshard_cutover.specs.inner.Steps.{AreFollowed}
 use Rattle.reshard_cutover.proofs.Onward.{looked_first, changed}

@@ -3,8 +3,8 @@ use Rattle.std.specs.Sync.Mutex.{mutex_guard_value}
 use Rattle.shard_run.specs.declared.Event.TheVariants.{Thaw}
 use Rattle.shard_run.specs.declared.Mode.TheVariants.{Frozen}
 use Rattle.shard_run.specs.Runs.{mode}
-use Rattle.shard_law.specs.Entries.{ShardView}
-use Rattle.shard.proofs.LockedLooks.{LookedAs, looked_as, mode_here}
+use Rattle.shard_contents.specs.Entries.{ShardView}
+use Rattle.follow.proofs.LockedLooks.{LookedAs, looked_as, mode_here}
 use Rattle.follow.specs.Steps.{IsOnward}
 use Rattle.reshard_cutover.proofs.Onward.{looked_first, changed}
 use Rattle.reshard_cutover.proofs.steps.thaw.Goals as goal

@@ -4,8 +4,8 @@ use Rattle.shard_run.specs.declared.ShardRecord.{ShardRecord}
 use Rattle.shard_run.specs.declared.Event.TheVariants.{Thaw}
 use Rattle.shard_run.specs.declared.Mode.TheVariants.{Serving, Frozen}
 use Rattle.shard_run.specs.Runs.{Run, mode, answers_queries}
-use Rattle.shard_law.specs.Entries.{ShardView}
-use Rattle.shard.proofs.LockedLooks.{LookedAs, looked_as, mode_here}
+use Rattle.shard_contents.specs.Entries.{ShardView}
+use Rattle.follow.proofs.LockedLooks.{LookedAs, looked_as, mode_here}
 use Rattle.follow.specs.Steps.{IsOnward}
 use Rattle.reshard_cutover.proofs.Modes.{frozen_of}
 use Rattle.reshard_cutover.proofs.Onward.{looked_first, changed}

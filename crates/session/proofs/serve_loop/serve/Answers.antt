@@ -1,7 +1,7 @@
 use Rattle.std.proofs.Common.{[], refl}
 use Rattle.std.proofs.KnownBytes.{Appends-nil, Consumes-nil}
-use Rattle.conversation.specs.declared.connection_state.ConnectionState.TheVariants.{New}
-use Rattle.conversation.specs.Means.{none_open}
+use Rattle.session.specs.declared.conversation.connection_state.ConnectionState.TheVariants.{New}
+use Rattle.session.specs.conversation.Means.{none_open}
 use Rattle.session.proofs.Servings.{unstarted}
 use Rattle.session.proofs.serve_loop.serve.Goals as goal
 

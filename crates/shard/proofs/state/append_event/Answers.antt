@@ -3,7 +3,7 @@ use Rattle.journal.specs.Views.{SeatView}
 use Rattle.shard_run.specs.declared.Entry.{Entry}
 use Rattle.shard_run.specs.declared.ShardRecord.{ShardRecord}
 use Rattle.shard_run.specs.Runs.{mode}
-use Rattle.shard_law.specs.Legal.{IsOnItsSlot, May}
+use Rattle.shard_contents.specs.Legal.{IsOnItsSlot, May}
 use Rattle.shard_contents.proofs.Modes as m
 use Rattle.shard.proofs.state.append_event.Goals as goal
 

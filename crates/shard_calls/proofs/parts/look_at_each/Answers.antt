@@ -1,6 +1,6 @@
 use Rattle.std.proofs.Common.{[], subst}
 use Rattle.std.specs.List.{AllByRecursion}
-use Rattle.shard_contents.proofs.Progress.{take_whole}
+use Rattle.shard.proofs.Progress.{take_whole}
 use Rattle.shard_calls.specs.Answers.{WasFound}
 use Rattle.shard_calls.proofs.Finding.{look_gone, found_next}
 use Rattle.shard_calls.proofs.Gathers.{stays}

@@ -1,7 +1,7 @@
 use Rattle.std.proofs.Common.{◌≡◌, ◌∷◌, [], Ok, IfOk, ap, sym, subst, ◌∙◌, rules}
 use Rattle.std.specs.Prelude.{List}
 use Rattle.shard_calls.specs.declared.reply.ShardRead.{ShardRead}
-use Rattle.shard_contents.specs.Shards.{AnswersQuery}
+use Rattle.shard.specs.Shards.{AnswersQuery}
 use Rattle.shard_calls.specs.inner.Scatter.{IsScattered}
 use Rattle.shard_calls.proofs.Alone.{scattered_alone, held_up_alone}
 use Rattle.shard_calls.proofs.scatter.read_alone.Goals as goal

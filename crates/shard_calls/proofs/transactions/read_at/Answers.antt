@@ -1,6 +1,6 @@
 use Rattle.std.proofs.Common.{refl}
 use Rattle.std.proofs.lemmas.Result.{err_from_is_err_and}
-use Rattle.operators.specs.Slices.{shown_at}
+use Rattle.planner.specs.Slices.{shown_at}
 use Rattle.shard_calls.specs.inner.InTransactions as w
 use Rattle.shard_calls.proofs.Calling.{was_read, was_not_read}
 use Rattle.shard_calls.proofs.Narrowings.{read_whole}

@@ -1,7 +1,7 @@
 use Rattle.std.proofs.Common.{◌∙◌, sym}
 use Rattle.std.proofs.lemmas.Result.{IfOk-weaker}
 use Rattle.vschema.specs.Database.{rows_of, all_applied}
-use Rattle.sql_eval.proofs.DistinctRows.{filter_true}
+use Rattle.shard_store.proofs.DistinctRows.{filter_true}
 use Rattle.shard_contents.proofs.transaction_rows.all_overlaid.Goals as goal
 
 pub returns : goal.returns

@@ -3,8 +3,8 @@ use Rattle.std.specs.Prelude.{IfOk}
 use Rattle.vt_value.specs.Values.{Row}
 use Rattle.vschema.specs.Database.{all_applied}
 use Rattle.vschema.specs.Sources.{source_rows}
-use Rattle.sql_eval.specs.Groups.{CanBeSummed}
-use Rattle.sql_eval.specs.Queries.{IsAnswer}
+use Rattle.shard_store.specs.Groups.{CanBeSummed}
+use Rattle.shard_store.specs.Queries.{IsAnswer}
 use Rattle.shard_contents.proofs.SourceRows.{sources_kept}
 use Rattle.shard_contents.proofs.transaction_rows.select_in_transaction.Goals as goal
 

@@ -1,8 +1,8 @@
 use Rattle.std.proofs.Common.{◌≤◌, ◌^◌, length, sym, subst, arith}
 use Rattle.vschema.specs.Database.{rows_of, all_applied}
-use Rattle.sql_eval.specs.Groups.{CanBeSummed}
-use Rattle.sql_eval.specs.Conditions.{is_kept}
-use Rattle.sql_eval.proofs.Sums.{filter_summed}
+use Rattle.shard_store.specs.Groups.{CanBeSummed}
+use Rattle.shard_store.specs.Conditions.{is_kept}
+use Rattle.shard_store.proofs.Sums.{filter_summed}
 use Rattle.shard_contents.proofs.Wanted.{longer}
 use Rattle.shard_contents.proofs.transaction_rows.select_one_in_transaction.Goals as goal
 

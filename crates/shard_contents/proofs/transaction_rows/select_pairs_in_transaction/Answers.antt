@@ -4,9 +4,9 @@ use Rattle.vt_value.specs.Values.{Row}
 use Rattle.vschema.specs.declared.schema.Join.{Join}
 use Rattle.vschema.specs.Database.{rows_of, all_applied}
 use Rattle.vschema.specs.Sources.{pairs_of}
-use Rattle.sql_eval.specs.Groups.{CanBeSummed}
-use Rattle.sql_eval.specs.Queries.{IsAnswer}
-use Rattle.sql_eval.proofs.DistinctRows.{filter_true}
+use Rattle.shard_store.specs.Groups.{CanBeSummed}
+use Rattle.shard_store.specs.Queries.{IsAnswer}
+use Rattle.shard_store.proofs.DistinctRows.{filter_true}
 use Rattle.shard_contents.specs.inner.Stores.{is_selected}
 use Rattle.shard_contents.specs.declared.transaction_rows.RowSelection.TheVariants.{All}
 use Rattle.shard_contents.proofs.transaction_rows.select_pairs_in_transaction.Goals as goal

@@ -1,6 +1,6 @@
 use Rattle.std.proofs.Common.{Option, Some, None}
 use Rattle.std.specs.Prelude.{IfSome}
-use Rattle.vschema.specs.Sources.{paired}
+use Rattle.sql_eval.specs.Sources.{paired}
 use Rattle.shard_store.proofs.KeptPairs.{fixed_of_first, fixed_of_second}
 use Rattle.shard_store.proofs.equalities.fixed_in_pairs.Goals as goal
 

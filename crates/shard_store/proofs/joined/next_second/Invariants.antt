@@ -1,5 +1,5 @@
 use Rattle.std.proofs.Common.{◌≡◌, length, filter}
-use Rattle.vschema.specs.Sources.{is_pair}
+use Rattle.sql_eval.specs.Sources.{is_pair}
 use Rattle.shard_store.proofs.joined.next_second.Given as goal
 
 -- no partner was passed over

@@ -1,7 +1,7 @@
 use Rattle.std.proofs.Common.{refl, arith}
 use Rattle.std.proofs.lemmas.Result.{IfOk-weaker}
 use Rattle.std.proofs.lemmas.List.Sorted.{length_permutation}
-use Rattle.vschema.specs.Sources.{pairs_of}
+use Rattle.sql_eval.specs.Sources.{pairs_of}
 use Rattle.sql_eval.proofs.SameAnswers.{same_answers}
 use Rattle.shard_store.proofs.KeptPairs.{seconds_permuted, summed_permuted}
 use Rattle.shard_store.proofs.joined.select_joined.Goals as goal

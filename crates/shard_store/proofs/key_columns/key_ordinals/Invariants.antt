@@ -1,5 +1,5 @@
 use Rattle.std.proofs.Common.{◌≡◌, ◌++◌, filter, not, take}
-use Rattle.vschema.specs.Checks.{has_number}
+use Rattle.sql_eval.specs.Checks.{has_number}
 use Rattle.shard_store.specs.Places.{vindex_ordinals}
 use Rattle.shard_store.proofs.key_columns.key_ordinals.Given as goal
 

@@ -1,7 +1,7 @@
 use Rattle.std.proofs.Common.{◌≡◌, length}
 use Rattle.std.specs.List.{list_any}
-use Rattle.vschema.specs.Schema.{key_of}
-use Rattle.vschema.specs.Database.{same_row}
+use Rattle.sql_eval.specs.Schema.{key_of}
+use Rattle.sql_eval.specs.Database.{same_row}
 use Rattle.shard_store.specs.inner.Joined.{rows_lent}
 use Rattle.shard_store.proofs.overlay.any_has_key_among.Given as goal
 

@@ -1,6 +1,6 @@
 use Rattle.std.proofs.Common.{◌++◌, rules}
 use Rattle.std.specs.Prelude.{IsTrue}
-use Rattle.vschema.specs.Sources.{padded_row}
+use Rattle.sql_eval.specs.Sources.{padded_row}
 use Rattle.sql_eval.specs.Conditions.{truth_at}
 use Rattle.shard_store.proofs.OwnConjuncts.{same_not, same_and, same_or, same_next}
 use Rattle.shard_store.proofs.pushdown.+below.Goals as goal

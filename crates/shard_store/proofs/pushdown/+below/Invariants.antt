@@ -1,6 +1,6 @@
 use Rattle.std.proofs.Common.{◌≡◌, ◌++◌, List, map, take}
 use Rattle.vt_value.specs.declared.value.Value.{Value as V}
-use Rattle.vschema.specs.Sources.{padded_row}
+use Rattle.sql_eval.specs.Sources.{padded_row}
 use Rattle.sql_eval.specs.Conditions.{truth_at}
 use Rattle.shard_store.proofs.pushdown.+below.Given as goal
 

@@ -1,6 +1,6 @@
 use Rattle.std.proofs.Common.{◌≡◌, ◌++◌, ◌∙◌, ℕ, List, Bor, true, ap, subst, sym}
 use Rattle.vt_value.specs.Values.{is_true}
-use Rattle.vschema.specs.Sources.{padded_row}
+use Rattle.sql_eval.specs.Sources.{padded_row}
 use Rattle.sql_tree.specs.declared.Condition.{Condition}
 use Rattle.sql_eval.specs.Conditions.{truth_at}
 use Rattle.shard_store.specs.inner.Joined.{passes}

@@ -1,7 +1,7 @@
 use Rattle.std.proofs.Common.{◌≡◌, ◌++◌, List, map, true}
 use Rattle.vt_value.specs.declared.value.Value.{Value as V}
 use Rattle.vt_value.specs.Values.{is_true, all_true}
-use Rattle.vschema.specs.Sources.{padded_row}
+use Rattle.sql_eval.specs.Sources.{padded_row}
 use Rattle.sql_eval.specs.Conditions.{truth_at}
 use Rattle.shard_store.specs.inner.Joined.{passes}
 use Rattle.shard_store.proofs.pushdown.+own.Given as goal

@@ -1,6 +1,6 @@
 use Rattle.std.proofs.Common.{◌≡◌, ◌++◌, ℕ, subst, sym}
 use Rattle.std.proofs.lemmas.Bool.{ltb-true}
-use Rattle.vschema.specs.Sources.{padded_row}
+use Rattle.sql_eval.specs.Sources.{padded_row}
 use Rattle.sql_tree.specs.declared.Operand.{Operand}
 use Rattle.sql_eval.specs.Conditions.{operand_value}
 use Rattle.sql_eval.proofs.PairValues.{left_at}

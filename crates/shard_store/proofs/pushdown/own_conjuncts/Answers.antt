@@ -1,6 +1,6 @@
 use Rattle.std.proofs.Common.{◌≡◌, ◌++◌, ℕ, Option, true, subst}
 use Rattle.std.proofs.lemmas.Result.{IfOk-weaker}
-use Rattle.vschema.specs.Sources.{padded_row}
+use Rattle.sql_eval.specs.Sources.{padded_row}
 use Rattle.sql_tree.specs.declared.Condition.{Condition}
 use Rattle.sql_eval.specs.Conditions.{is_kept}
 use Rattle.shard_store.proofs.pushdown.own_conjuncts.Goals as goal

@@ -1,5 +1,5 @@
 use Rattle.std.proofs.Common.{rules}
-use Rattle.operators.proofs.OrderLemmas.{value_cmp-total}
+use Rattle.aggregate.proofs.OrderLemmas.{value_cmp-total}
 use Rattle.vt_value.specs.Values.{value_cmp}
 use Rattle.sql_eval.proofs.Lent.{sorted_by_lent}
 use Rattle.sql_eval.proofs.filters.sort.Goals as goal

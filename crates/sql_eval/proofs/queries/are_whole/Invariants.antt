@@ -1,5 +1,5 @@
 use Rattle.std.proofs.Common.{◌≡◌, map, take}
-use Rattle.operators.specs.Slices.{columns_of}
+use Rattle.aggregate.specs.Slices.{columns_of}
 use Rattle.sql_eval.proofs.queries.are_whole.Given as goal
 
 -- the rows so far are shown as they are

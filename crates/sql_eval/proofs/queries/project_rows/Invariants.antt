@@ -1,5 +1,5 @@
 use Rattle.std.proofs.Common.{◌≡◌, take, map}
-use Rattle.operators.specs.Slices.{columns_of}
+use Rattle.aggregate.specs.Slices.{columns_of}
 use Rattle.sql_eval.proofs.queries.project_rows.Given as goal
 
 abbrev pub invariant-loop-row : goal.invariant-loop-row

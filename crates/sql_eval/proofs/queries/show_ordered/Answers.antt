@@ -3,8 +3,8 @@ use Rattle.std.specs.Prelude.{IsSorted, filter}
 use Rattle.std.proofs.lemmas.Result.{IfOk-weaker}
 use Rattle.sql_tree.specs.declared.Item.{Item}
 use Rattle.sql_tree.specs.declared.Key.{Key}
-use Rattle.operators.specs.Orders.{row_cmp}
-use Rattle.operators.specs.Slices.{sliced, columns_of}
+use Rattle.aggregate.specs.Orders.{row_cmp}
+use Rattle.aggregate.specs.Slices.{sliced, columns_of}
 use Rattle.sql_eval.specs.Conditions.{is_kept}
 use Rattle.sql_eval.specs.Grouping.{shown_ordinal}
 use Rattle.sql_eval.proofs.LentRows.{no_condition}

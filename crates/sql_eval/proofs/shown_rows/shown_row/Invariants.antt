@@ -1,6 +1,6 @@
 use Rattle.std.proofs.Common.{◌≡◌, take, map, length}
 use Rattle.std.specs.Prelude.{vec_len, vec_capacity}
-use Rattle.operators.specs.Slices.{columns_of}
+use Rattle.aggregate.specs.Slices.{columns_of}
 use Rattle.sql_eval.specs.Grouping.{shown_ordinal}
 use Rattle.sql_eval.proofs.shown_rows.shown_row.Given as goal
 

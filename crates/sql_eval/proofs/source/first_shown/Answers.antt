@@ -1,6 +1,6 @@
 use Rattle.std.proofs.Common.{sym, ◌∙◌, ◌++◌, ◌∷◌, [], map, filter}
-use Rattle.operators.specs.Slices.{columns_of}
-use Rattle.operators.proofs.SliceLemmas.{drop_next}
+use Rattle.aggregate.specs.Slices.{columns_of}
+use Rattle.aggregate.proofs.SliceLemmas.{drop_next}
 use Rattle.sql_eval.specs.Conditions.{is_kept}
 use Rattle.sql_eval.specs.Grouping.{shown_ordinal}
 use Rattle.sql_eval.proofs.Firsts.{shown_more}

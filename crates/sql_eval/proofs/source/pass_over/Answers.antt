@@ -1,5 +1,5 @@
 use Rattle.std.proofs.Common.{sym, ◌∙◌, ap, filter, arith}
-use Rattle.operators.proofs.SliceLemmas.{drop_ended, drop_next}
+use Rattle.aggregate.proofs.SliceLemmas.{drop_ended, drop_next}
 use Rattle.sql_eval.specs.Conditions.{is_kept}
 use Rattle.sql_eval.proofs.source.pass_over.Goals as goal
 

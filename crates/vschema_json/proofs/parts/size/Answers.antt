@@ -1,7 +1,7 @@
 use Rattle.std.proofs.Common.{◌+◌, drop, get_or, ap, sym, ◌∙◌}
 use Rattle.std.proofs.lemmas.List.{drop_more, drop_all}
 use Rattle.std.specs.List.{list_all}
-use Rattle.sql_lexer.specs.Lexemes.{is_digit, digits_onto}
+use Rattle.sql_tree.specs.Lexemes.{is_digit, digits_onto}
 use Rattle.vschema_json.proofs.Sizes.{stopped, sized}
 use Rattle.vschema_json.proofs.parts.size.Goals as goal
 

@@ -1,6 +1,6 @@
 use Rattle.std.proofs.Common.{◌≡◌, ◌≤◌, drop}
 use Rattle.std.specs.List.{list_all}
-use Rattle.sql_lexer.specs.Lexemes.{is_digit, digits_onto}
+use Rattle.sql_tree.specs.Lexemes.{is_digit, digits_onto}
 use Rattle.vschema_json.proofs.parts.size.Given as goal
 
 abbrev pub invariant-loop-digit : goal.invariant-loop-digit

@@ -1,6 +1,6 @@
 use Rattle.std.proofs.Common.{◌≡◌, ℕ, List, true, false, subst}
 use Rattle.keyrange.specs.declared.KeyRange.{KeyRange}
-use Rattle.vtgate_lines.specs.Partitions.{NamesPartition}
+use Rattle.vtgate_serve.specs.Partitions.{NamesPartition}
 use Rattle.vtgate_main.proofs.Asking.{plan_asked, script_asked}
 use Rattle.vtgate_main.proofs.running.run.Goals as goal
 

@@ -1,5 +1,5 @@
 use Rattle.std.proofs.Common.{◌≡◌}
-use Rattle.opening.specs.Empty.{sharded_keyspace}
+use Rattle.shard_run.specs.opening.Empty.{sharded_keyspace}
 use Rattle.admin.specs.AdminAnswers.{keyspace_of}
 use Rattle.vtgate_serve.proofs.admin_port.serve_admin.Given as goal
 

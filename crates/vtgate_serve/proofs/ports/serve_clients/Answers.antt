@@ -7,8 +7,8 @@ use denote.Struct.Tuple.{TupleAt}
 use Rattle.std.proofs.Common.{List, [], ◌∷◌}
 use Rattle.std.specs.contracts.alloc.Global as heap
 use Rattle.std.proofs.alloc.Global.TheSendSync as sent_heap
-use Rattle.route_engine.specs.contracts.engine.Engine as engine
-use Rattle.route_engine.proofs.Shared.{engine_sync}
+use Rattle.admin.specs.Engine as engine
+use Rattle.admin.proofs.Shared.{engine_sync}
 use Rattle.vtgate_serve.specs.contracts.connection.Connection as connection
 use Rattle.vtgate_serve.specs.contracts.admission.Admission as admission
 use Rattle.vtgate_serve.specs.contracts.progress.ServeProgress as progress

@@ -1,5 +1,5 @@
 use Rattle.shard_law.specs.Entries.{most_limits}
-use Rattle.opening.specs.Empty.{opening_of}
+use Rattle.shard_run.specs.opening.Empty.{opening_of}
 use Rattle.vtgate_serve.proofs.serve.served.Given as goal
 
 -- the world of this VSchema and these ranges, without rows

@@ -1,6 +1,6 @@
 use Rattle.std.proofs.Common.{ℕ, List, ◌++◌, map, reverse, sym, ap, ◌∙◌}
 use Rattle.reshard.specs.Workflows.{WorkflowView}
-use Rattle.reshard_cutover.specs.TargetSources.{TargetWithSources}
+use Rattle.reshard_create.specs.TargetSources.{TargetWithSources}
 use Rattle.reshard_create.proofs.Begins.{map_twice}
 use Rattle.reshard.proofs.workflow.Workflow.create.Goals as goal
 

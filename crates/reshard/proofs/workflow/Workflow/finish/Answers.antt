@@ -1,8 +1,8 @@
 use Rattle.std.proofs.Common.{rules, ◌≡◌, map, ap, ◌∙◌}
 use Rattle.reshard.specs.declared.cutover.CutoverStep.TheVariants.{Release}
 use Rattle.reshard.specs.Workflows.{WorkflowView}
-use Rattle.reshard_cutover.specs.TargetSources.{TargetWithSources}
-use Rattle.reshard_cutover.proofs.Onward.{onward_trans}
+use Rattle.reshard_create.specs.TargetSources.{TargetWithSources}
+use Rattle.reshard_create.proofs.Onward.{onward_trans}
 use Rattle.reshard.proofs.Through.{further_trans, further_switched, switched_at_end, published_at_end, begun_still, finished}
 use Rattle.reshard.proofs.workflow.Workflow.finish.Goals as goal
 

@@ -1,5 +1,5 @@
 use Rattle.std.proofs.Common.{◌≡◌, true}
-use Rattle.follow.specs.Steps.{IsOnward}
+use Rattle.reshard_create.specs.FollowSteps.{IsOnward}
 use Rattle.reshard.specs.declared.workflow.Stage.TheVariants.{None}
 use Rattle.reshard.specs.Cutover.{IsFurther}
 use Rattle.reshard.proofs.workflow.Workflow.finish.Given as goal

@@ -4,7 +4,7 @@ use Rattle.std.proofs.lemmas.List.{length-map}
 use Rattle.std.specs.Prelude.{slice_set}
 use Rattle.reshard.specs.Workflows.{WorkflowView}
 use Rattle.reshard.proofs.Nexts.{view_there, view_among, no_room_at}
-use Rattle.reshard_cutover.proofs.Residual.{residual_same}
+use Rattle.reshard_create.proofs.Residual.{residual_same}
 use Rattle.reshard.proofs.workflow.Workflow.freeze_next.Goals as goal
 
 pub returns-in_err-stored-clause-err : goal.returns-in_err-stored-clause-err

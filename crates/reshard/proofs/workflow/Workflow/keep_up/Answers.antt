@@ -1,7 +1,7 @@
 use Rattle.std.proofs.Common.{◌≡◌, ℕ, List, map, refl, ap, ◌∙◌, subst, arith}
-use Rattle.reshard_cutover.specs.declared.fault.ReshardFault.TheVariants.{Refused}
-use Rattle.reshard_cutover.specs.FirstMoves.{IsMoveRefusal}
-use Rattle.reshard_cutover.specs.TargetSources.{TargetWithSources}
+use Rattle.reshard_create.specs.ReshardFault.TheVariants.{Refused}
+use Rattle.reshard_create.specs.FirstMoves.{IsMoveRefusal}
+use Rattle.reshard_create.specs.TargetSources.{TargetWithSources}
 use Rattle.reshard.specs.Workflows.{WorkflowView}
 use Rattle.reshard.proofs.Nexts.{from_move}
 use Rattle.reshard.proofs.Switches.{stopped}

@@ -1,6 +1,6 @@
 use Rattle.std.proofs.Common.{map, refl, ap, ◌∙◌}
 use Rattle.std.specs.Vec.Iter.{into_iter_items}
-use Rattle.reshard_cutover.specs.Steps.{named_for}
+use Rattle.reshard_create.specs.Steps.{named_for}
 use Rattle.reshard.proofs.Nexts.{prepared_now}
 use Rattle.reshard.proofs.workflow.Workflow.prepare.Goals as goal
 

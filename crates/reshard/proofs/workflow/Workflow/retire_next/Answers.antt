@@ -3,11 +3,11 @@ use Rattle.std.proofs.lemmas.Bool.{false≢true}
 use Rattle.std.specs.Option.{option_to_list}
 use Rattle.std.specs.Vec.Iter.{into_iter_items}
 use Rattle.shard_run.specs.declared.Event.TheVariants.{Retire}
-use Rattle.follow.specs.Steps.{HasStepped}
-use Rattle.reshard_cutover.specs.Steps.{FitTargets, named_for}
+use Rattle.reshard_create.specs.FollowSteps.{HasStepped}
+use Rattle.reshard_create.specs.Steps.{FitTargets, named_for}
 use Rattle.reshard.specs.Workflows.{WorkflowView}
-use Rattle.reshard_cutover.specs.TargetSources.{shards_of}
-use Rattle.reshard_cutover.proofs.Retiring.{map_at, item_of}
+use Rattle.reshard_create.specs.TargetSources.{shards_of}
+use Rattle.reshard_create.proofs.Retiring.{map_at, item_of}
 use Rattle.reshard.proofs.Nexts.{view_within, view_there, next_list}
 use Rattle.reshard.proofs.workflow.Workflow.retire_next.Goals as goal
 

@@ -1,12 +1,12 @@
 use Rattle.std.proofs.Common.{List, map, sym, ap, subst, ◌∙◌}
 use Rattle.shard_run.specs.declared.ShardRecord.{ShardRecord}
-use Rattle.follow.specs.Turns.{EachInTurn}
-use Rattle.reshard_cutover.specs.Looks.{HasLookedOnlyAt}
+use Rattle.reshard_create.specs.Turns.{EachInTurn}
+use Rattle.reshard_create.specs.Looks.{HasLookedOnlyAt}
 use Rattle.shard_run.specs.declared.Event.TheVariants.{Serve}
-use Rattle.reshard_cutover.specs.Steps.{IsTargetOf}
+use Rattle.reshard_create.specs.Steps.{IsTargetOf}
 use Rattle.reshard.specs.Workflows.{WorkflowView}
-use Rattle.reshard_cutover.proofs.Retiring.{map_at, item_of}
-use Rattle.reshard_cutover.proofs.Onward.{stepped_after}
+use Rattle.reshard_create.proofs.Retiring.{map_at, item_of}
+use Rattle.reshard_create.proofs.Onward.{stepped_after}
 use Rattle.reshard.proofs.Nexts.{view_within, view_there}
 use Rattle.reshard.proofs.workflow.Workflow.serve_next.Goals as goal
 

@@ -1,7 +1,7 @@
 use Rattle.std.proofs.Common.{◌≡◌, ◌⊎◌, rules, inr}
-use Rattle.reshard_cutover.specs.declared.fault.ReshardFault.TheVariants.{Refused}
+use Rattle.reshard_create.specs.ReshardFault.TheVariants.{Refused}
 use Rattle.reshard.specs.declared.workflow.Stage.TheVariants.{Following}
-use Rattle.reshard_cutover.specs.FirstMoves.{IsMoveRefusal, IsNoStepFirst}
+use Rattle.reshard_create.specs.FirstMoves.{IsMoveRefusal, IsNoStepFirst}
 use Rattle.reshard_create.proofs.Unfit.{residual}
 use Rattle.reshard.proofs.workflow.Workflow.step.Goals as goal
 

@@ -2,7 +2,7 @@ use Rattle.std.proofs.Common.{◌≡◌, ◌+◌, ◌≤◌, Bool, true, length,
 use Rattle.std.proofs.lemmas.List.{length-map}
 use Rattle.reshard.specs.declared.workflow.Stage.TheVariants.{Switched}
 use Rattle.reshard.specs.Workflows.{WorkflowView}
-use Rattle.reshard_cutover.specs.TargetSources.{TargetWithSources}
+use Rattle.reshard_create.specs.TargetSources.{TargetWithSources}
 use Rattle.reshard.specs.Cutover.{retired, served, published, released}
 use Rattle.reshard.proofs.workflow.Workflow.switch_after.Goals as goal
 

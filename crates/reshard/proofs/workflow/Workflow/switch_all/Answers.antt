@@ -1,9 +1,9 @@
 use Rattle.std.proofs.Common.{rules, ◌≡◌, map, sym, ap, ◌∙◌}
 use Rattle.reshard.specs.declared.cutover.CutoverStep.TheVariants.{Release}
 use Rattle.reshard.specs.Workflows.{WorkflowView}
-use Rattle.reshard_cutover.specs.TargetSources.{TargetWithSources}
-use Rattle.reshard_cutover.proofs.Onward.{still, onward_trans}
-use Rattle.reshard_cutover.proofs.Residual.{residual_same}
+use Rattle.reshard_create.specs.TargetSources.{TargetWithSources}
+use Rattle.reshard_create.proofs.Onward.{still, onward_trans}
+use Rattle.reshard_create.proofs.Residual.{residual_same}
 use Rattle.reshard.proofs.Through.{further_still, further_trans, further_switched, switched_at_end, published_at_end, may_still, finished, refused_later}
 use Rattle.reshard.proofs.workflow.Workflow.switch_all.Goals as goal
 

@@ -1,4 +1,4 @@
-use Rattle.follow.specs.Steps.{IsOnward}
+use Rattle.reshard_create.specs.FollowSteps.{IsOnward}
 use Rattle.reshard.specs.Cutover.{IsFurther, MaySwitch}
 use Rattle.reshard.proofs.workflow.Workflow.switch_all.Given as goal
 

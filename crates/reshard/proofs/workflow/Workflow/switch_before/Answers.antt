@@ -4,20 +4,20 @@ use Rattle.std.specs.Prelude.{IfOk, IfErr, MatchOption, slice_get}
 use Rattle.journal.proofs.Fronts.{prefix_self}
 use Rattle.vt_value.specs.declared.refusal.Refusal.{Refusal}
 use Rattle.vt_value.specs.declared.refusal.Refusal.TheVariants.{OutOfMemory, ShardFull}
-use Rattle.follow.specs.declared.steps.Step.{Step}
-use Rattle.reshard_cutover.specs.declared.fault.ReshardFault.TheVariants.{Refused}
-use Rattle.reshard_cutover.specs.FirstMoves.{HasMovedFirst, IsMoveRefusal, IsOneStepFirst}
+use Rattle.reshard_create.specs.Step.{Step}
+use Rattle.reshard_create.specs.ReshardFault.TheVariants.{Refused}
+use Rattle.reshard_create.specs.FirstMoves.{HasMovedFirst, IsMoveRefusal, IsOneStepFirst}
 use Rattle.reshard.specs.Workflows.{WorkflowView}
-use Rattle.reshard_cutover.specs.TargetSources.{TargetWithSources}
+use Rattle.reshard_create.specs.TargetSources.{TargetWithSources}
 use Rattle.reshard.specs.declared.cutover.CutoverStep.{CutoverStep}
 use Rattle.reshard.specs.declared.cutover.CutoverStep.TheVariants.{Retire}
-use Rattle.follow.specs.declared.steps.Step.TheVariants.{Level}
+use Rattle.reshard_create.specs.Step.TheVariants.{Level}
 use Rattle.std.specs.List.{AllByRecursion}
-use Rattle.follow.specs.Turns.{EachInTurn}
-use Rattle.reshard_cutover.specs.Looks.{HasLookedOnlyAt, IsWithinRows}
+use Rattle.reshard_create.specs.Turns.{EachInTurn}
+use Rattle.reshard_create.specs.Looks.{HasLookedOnlyAt, IsWithinRows}
 use Rattle.reshard.specs.Cutover.{IsSwitchRefusal, overfull, HasFoundReady, DoesNoMore, MayRetireFirst}
 use Rattle.reshard.proofs.Nexts.{from_move, refusal_within}
-use Rattle.reshard_cutover.proofs.Residual.{residual_same}
+use Rattle.reshard_create.proofs.Residual.{residual_same}
 use Rattle.reshard.proofs.Switches.{froze_after, copied_after, followed_after, memory_refused, room_refused, refused_as, may_retire}
 use Rattle.reshard.proofs.workflow.Workflow.switch_before.Goals.{then-all_fit, else-all_fit}
 use Rattle.reshard.proofs.workflow.Workflow.switch_before.Goals as goal
@@ -73,7 +73,7 @@ returns-in-Copied-clause-step g c =
     let v = ap (λ (w : WorkflowView). length w.sources) c.self.view_is in
     let n = ap (λ (w : WorkflowView). w.frozen) c.self.view_is in
     copied_after o c.args.self.now w1 w1 c.args.pass.now now c.in_ok-prepare.ensures.now (omega (arith, a, b, d, e, v, n))
-    (subst (λ (l : List TargetWithSources). HasMovedFirst o l c.args.pass.now now Rattle.follow.specs.declared.steps.Step.TheVariants.Copied) ts
+    (subst (λ (l : List TargetWithSources). HasMovedFirst o l c.args.pass.now now Rattle.reshard_create.specs.Step.TheVariants.Copied) ts
     (subst (λ (s : Step). HasMovedFirst o (map {B = TargetWithSources} (λ t. (t.member.which, map (λ s. s.which) t.sources.items)) c.as_slice.result.now) c.args.pass.now now s)
     c.in-Copied.is c.in_ok-move_first.ensures.moved)) refl
 
@@ -91,7 +91,7 @@ returns-in-Followed-clause-step g c =
     let v = ap (λ (w : WorkflowView). length w.sources) c.self.view_is in
     let n = ap (λ (w : WorkflowView). w.frozen) c.self.view_is in
     followed_after o c.args.self.now w1 w1 c.args.pass.now now c.in_ok-prepare.ensures.now (omega (arith, a, b, d, e, v, n))
-    (subst (λ (l : List TargetWithSources). HasMovedFirst o l c.args.pass.now now Rattle.follow.specs.declared.steps.Step.TheVariants.Followed) ts
+    (subst (λ (l : List TargetWithSources). HasMovedFirst o l c.args.pass.now now Rattle.reshard_create.specs.Step.TheVariants.Followed) ts
     (subst (λ (s : Step). HasMovedFirst o (map {B = TargetWithSources} (λ t. (t.member.which, map (λ s. s.which) t.sources.items)) c.as_slice.result.now) c.args.pass.now now s)
     c.in-Followed.is c.in_ok-move_first.ensures.moved)) refl
 
@@ -102,7 +102,7 @@ returns-in-Copied-clause-once g c =
     let ts =
     ap (map {B = TargetWithSources} (λ t. (t.member.which, map (λ s. s.which) t.sources.items))) c.as_slice.ensures.value ∙ ap (λ (w : WorkflowView). w.targets) c.self.view_is
     ∙ ap (λ (w : WorkflowView). w.targets) c.in_ok-prepare.ensures.now in
-    subst (λ (l : List TargetWithSources). IsOneStepFirst l p now Rattle.follow.specs.declared.steps.Step.TheVariants.Copied) ts
+    subst (λ (l : List TargetWithSources). IsOneStepFirst l p now Rattle.reshard_create.specs.Step.TheVariants.Copied) ts
     (subst (λ (s : Step). IsOneStepFirst (map {B = TargetWithSources} (λ t. (t.member.which, map (λ s. s.which) t.sources.items)) c.as_slice.result.now) p now s)
     c.in-Copied.is c.in_ok-move_first.ensures.once)
 
@@ -113,7 +113,7 @@ returns-in-Followed-clause-once g c =
     let ts =
     ap (map {B = TargetWithSources} (λ t. (t.member.which, map (λ s. s.which) t.sources.items))) c.as_slice.ensures.value ∙ ap (λ (w : WorkflowView). w.targets) c.self.view_is
     ∙ ap (λ (w : WorkflowView). w.targets) c.in_ok-prepare.ensures.now in
-    subst (λ (l : List TargetWithSources). IsOneStepFirst l p now Rattle.follow.specs.declared.steps.Step.TheVariants.Followed) ts
+    subst (λ (l : List TargetWithSources). IsOneStepFirst l p now Rattle.reshard_create.specs.Step.TheVariants.Followed) ts
     (subst (λ (s : Step). IsOneStepFirst (map {B = TargetWithSources} (λ t. (t.member.which, map (λ s. s.which) t.sources.items)) c.as_slice.result.now) p now s)
     c.in-Followed.is c.in_ok-move_first.ensures.once)
 

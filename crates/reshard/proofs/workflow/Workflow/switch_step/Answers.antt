@@ -1,5 +1,5 @@
 use Rattle.std.proofs.Common.{inr, refl}
-use Rattle.reshard_cutover.specs.declared.fault.ReshardFault.TheVariants.{Refused}
+use Rattle.reshard_create.specs.ReshardFault.TheVariants.{Refused}
 use Rattle.reshard.proofs.Switches.{stopped}
 use Rattle.reshard.proofs.workflow.Workflow.switch_step.Goals as goal
 

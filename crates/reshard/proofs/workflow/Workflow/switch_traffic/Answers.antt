@@ -3,8 +3,8 @@ use Rattle.std.specs.Prelude.{OnOk}
 use Rattle.reshard.specs.declared.workflow.Stage.TheVariants.{Following}
 use Rattle.reshard.specs.Workflows.{WorkflowView}
 use Rattle.reshard.specs.Cutover.{HasFinished, HasStoppedLater}
-use Rattle.reshard_cutover.proofs.Onward.{still, onward_trans}
-use Rattle.reshard_cutover.proofs.Residual.{residual_same}
+use Rattle.reshard_create.proofs.Onward.{still, onward_trans}
+use Rattle.reshard_create.proofs.Residual.{residual_same}
 use Rattle.reshard.proofs.Through.{further_still, stopped_later, stopped_since, err_as}
 use Rattle.reshard.proofs.workflow.Workflow.switch_traffic.Goals as goal
 

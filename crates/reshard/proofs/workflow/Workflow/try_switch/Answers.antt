@@ -1,10 +1,10 @@
 use Rattle.std.proofs.Common.{inl, inr, sym, ap, ◌∙◌, subst}
 use Rattle.journal.specs.Views.{PassView}
 use Rattle.shard_run.specs.declared.Entry.{Entry}
-use Rattle.follow.specs.Steps.{IsOnward}
+use Rattle.reshard_create.specs.FollowSteps.{IsOnward}
 use Rattle.reshard.specs.Workflows.{WorkflowView}
 use Rattle.reshard.specs.Cutover.{HasSwitched, HasFoundReady, EndsAlone, MayRetireFirst}
-use Rattle.reshard_cutover.proofs.Onward.{onward_trans}
+use Rattle.reshard_create.proofs.Onward.{onward_trans}
 use Rattle.reshard.proofs.Switches.{switched_since, when_none, ready_later, no_more, alone_of}
 use Rattle.reshard.proofs.workflow.Workflow.try_switch.Goals.{then-self-eq0+in_ok-step+in_default, else-self-eq0}
 use Rattle.reshard.proofs.workflow.Workflow.try_switch.Goals as goal

@@ -1,7 +1,7 @@
 use Rattle.std.proofs.Common.{Some, None, ap, sym, subst, length, ◌<◌}
 use Rattle.shard_contents.specs.Transactions.{PendingView}
-use Rattle.sql_eval.specs.Writes.{written_table}
-use Rattle.shard_law.proofs.Typed.{table_there}
+use Rattle.shard_contents.specs.Writes.{written_table}
+use Rattle.shard_contents.proofs.Typed.{table_there}
 use Rattle.vschema.specs.declared.schema.VSchema.{VSchema}
 use Rattle.route_engine.proofs.Theirs.{query_there, query_joins}
 use Rattle.route_engine.proofs.Sessions.{is_typed}

@@ -3,7 +3,7 @@ use Rattle.std.specs.Prelude.{IsSorted}
 use Rattle.std.proofs.lemmas.List.Elements.{All-head}
 use Rattle.operators.specs.Orders.{row_cmp}
 use Rattle.vt_value.specs.Values.{Row}
-use Rattle.planner.specs.Plans.{Finishes, CanJoin}
+use Rattle.shard_calls.specs.Plans.{Finishes, CanJoin}
 use Rattle.route_engine.proofs.engine.Engine.answer_alone.Goals as goal
 
 pub answer_alone-requires : goal.answer_alone-requires

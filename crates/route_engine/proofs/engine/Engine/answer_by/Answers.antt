@@ -3,7 +3,7 @@ use Rattle.std.specs.Prelude.{All, IsSorted}
 use Rattle.std.proofs.lemmas.List.{get_or-map, length-map}
 use Rattle.operators.specs.Orders.{row_cmp}
 use Rattle.vt_value.specs.Values.{Row}
-use Rattle.planner.specs.Plans.{Finishes, CanJoin}
+use Rattle.shard_calls.specs.Plans.{Finishes, CanJoin}
 use Rattle.route_engine.proofs.Selecting.{flat_mapped}
 use Rattle.route_engine.proofs.engine.Engine.answer_by.Goals as goal
 

@@ -1,6 +1,6 @@
 use Rattle.std.proofs.Common.{◌≡◌, ◌∙◌, [], rules}
-use Rattle.planner.specs.Plans.{planned}
-use Rattle.planner.specs.Routes.{route_of}
+use Rattle.shard_calls.specs.Plans.{planned}
+use Rattle.shard_calls.specs.Routes.{route_of}
 use Rattle.shard_calls.proofs.Gathers.{stays}
 use Rattle.route_engine.proofs.Scattering.{of_keyspace}
 use Rattle.route_engine.proofs.Points.{finished_alone}

@@ -1,7 +1,7 @@
 use Rattle.std.proofs.Common.{[], ap, sym, subst, ◌∙◌, refl}
 use Rattle.vschema.specs.declared.changes.Write.{Write}
-use Rattle.sql_eval.specs.Writes.{written_table}
-use Rattle.planner.specs.Routes.{table_at, write_route}
+use Rattle.shard_contents.specs.Writes.{written_table}
+use Rattle.shard_calls.specs.Routes.{table_at, write_route}
 use Rattle.shard_calls.specs.Answers as a
 use Rattle.shard_calls.proofs.Gathers.{stays}
 use Rattle.route_engine.proofs.Selecting.{gone_on}

@@ -4,9 +4,9 @@ use Rattle.vschema.specs.declared.schema.VSchema.{VSchema}
 use Rattle.shard_calls.specs.Answers as a
 use Rattle.route_engine.proofs.Selecting.{selected, joined, arranged, is_table}
 use Rattle.route_engine.proofs.Formed.{keyspace_below}
-use Rattle.planner.specs.declared.plans.Plan.{Plan}
-use Rattle.planner.specs.Plans.{planned}
-use Rattle.planner.specs.Routes.{table_at}
+use Rattle.shard_calls.specs.Plan.{Plan}
+use Rattle.shard_calls.specs.Plans.{planned}
+use Rattle.shard_calls.specs.Routes.{table_at}
 use Rattle.route_engine.proofs.Scattering.{not_read}
 use Rattle.shard_calls.proofs.Gathers.{stays}
 use Rattle.route_engine.proofs.engine.Engine.rows_by_plan.Goals as goal

@@ -1,5 +1,5 @@
 use Rattle.route_engine.proofs.Doing as d
-use Rattle.shard_law.proofs.Typed.{table_there}
+use Rattle.shard_contents.proofs.Typed.{table_there}
 use Rattle.route_engine.proofs.Sessions.{is_typed}
 use Rattle.route_engine.proofs.Theirs.{query_there, query_joins}
 use Rattle.route_engine.proofs.engine.Engine.step_in.Goals as goal

@@ -5,7 +5,7 @@ use Rattle.vschema.specs.declared.schema.VSchema.{VSchema}
 use Rattle.vschema.specs.declared.schema.Typed.TheVariants as typed
 use Rattle.route_engine.proofs.Formed.{keyspace_below}
 use Rattle.route_engine.proofs.Selecting.{is_table}
-use Rattle.sql_eval.specs.Writes.{written_table}
+use Rattle.shard_contents.specs.Writes.{written_table}
 use Rattle.route_engine.proofs.engine.Engine.write_in.Goals as goal
 
 pub count_by-count-requires-clause-keyspace : goal.count_by-count-requires-clause-keyspace

@@ -1,10 +1,10 @@
 use Rattle.std.proofs.Common.{[], refl, ap, ◌∙◌}
 use Rattle.std.proofs.KnownBytes.{Appends-nil, Consumes-nil}
 use Rattle.std.specs.Prelude.{None}
-use Rattle.conversation.specs.Means.{context_of, none_open}
+use Rattle.session.specs.conversation.Means.{context_of, none_open}
 use Rattle.session.specs.Alone.{alone_first}
 use Rattle.session.proofs.Alone.{served_alone}
-use Rattle.conversation.proofs.Conversations.{same_fault}
+use Rattle.session.proofs.conversation.Conversations.{same_fault}
 use Rattle.session.proofs.Servings.{one_more, still_goes_on, still_open, has_ended, stopped, starved, cut_short, told_passes, told_pass, kept_pass, kept_none}
 use Rattle.session.proofs.serve_loop.Runner.serve_on.Goals as goal
 

@@ -1,12 +1,12 @@
 use Rattle.std.proofs.Common.{◌≡◌, ℕ, List, None}
 use Rattle.std.specs.Io.KnownBytes.{Appends, Consumes}
-use Rattle.shard_calls.specs.Pendings.{IsOf}
+use Rattle.route_engine.specs.Pendings.{IsOf}
 use Rattle.session.specs.declared.session_core.TheConstants.{COMMAND_LIMIT}
-use Rattle.conversation.specs.declared.access.Handshake.{Handshake}
-use Rattle.conversation.specs.declared.connection_state.ConnectionState.TheVariants.{New}
-use Rattle.conversation.specs.Means.{PassAndTransaction, IsKept, Means, none_open, context_of}
-use Rattle.conversation.specs.Sessions.{HasTalked}
-use Rattle.conversation.specs.ConnectionStates.{end_of}
+use Rattle.session.specs.declared.conversation.access.Handshake.{Handshake}
+use Rattle.session.specs.declared.conversation.connection_state.ConnectionState.TheVariants.{New}
+use Rattle.session.specs.conversation.Means.{PassAndTransaction, IsKept, Means, none_open, context_of}
+use Rattle.session.specs.conversation.Sessions.{HasTalked}
+use Rattle.session.specs.conversation.ConnectionStates.{end_of}
 use Rattle.session.proofs.serve_loop.Runner.serve_on.Given as goal
 
 abbrev pub invariant-loop : goal.invariant-loop

@@ -2,7 +2,7 @@ use Rattle.std.proofs.Common.{[], take, subst}
 use Rattle.std.specs.Io.KnownBytes.{Consumes}
 use Rattle.std.proofs.KnownBytes.{Appends-nil, Consumes-nil}
 use Rattle.std.proofs.lemmas.List.{append-nil}
-use Rattle.conversation.proofs.Conversations.{not_by_input}
+use Rattle.session.proofs.conversation.Conversations.{not_by_input}
 use Rattle.session.proofs.Servings.{served}
 use Rattle.session.proofs.serve_loop.Runner.serve_piece.Goals as goal
 

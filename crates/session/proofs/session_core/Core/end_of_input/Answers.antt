@@ -1,5 +1,5 @@
 use Rattle.std.proofs.Common.{◌∙◌}
-use Rattle.conversation.proofs.Conversations.{whole_end, is_end}
+use Rattle.session.proofs.conversation.Conversations.{whole_end, is_end}
 use Rattle.session.proofs.session_core.Core.end_of_input.Goals as goal
 
 pub returns-in-None-clause-whole : goal.returns-in-None-clause-whole

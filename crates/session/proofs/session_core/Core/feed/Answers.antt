@@ -1,6 +1,6 @@
 use Rattle.std.proofs.Common.{refl, sym, ◌∙◌}
 use Rattle.session.proofs.Alone.{fed_over, kept_same, same_legal, same_others}
-use Rattle.conversation.proofs.Conversations.{talked_on, broken_off, fed_ends, same_fault}
+use Rattle.session.proofs.conversation.Conversations.{talked_on, broken_off, fed_ends, same_fault}
 use Rattle.session.proofs.Begun.{fed_begun, ended_begun}
 use Rattle.session.proofs.session_core.Core.feed.Goals as goal
 

@@ -1,5 +1,5 @@
 use Rattle.std.proofs.Common.{[], refl}
-use Rattle.conversation.specs.Talk as t
+use Rattle.session.specs.conversation.Talk as t
 use Rattle.session.proofs.session_core.Core.new.Goals as goal
 
 pub returns-clause-begins : goal.returns-clause-begins

@@ -1,4 +1,4 @@
-use Rattle.conversation.specs.inner.Sessions.{one_command}
+use Rattle.session.specs.conversation.inner.Sessions.{one_command}
 use Rattle.session.proofs.session_core.CoreState.answer_piece.Goals as goal
 
 pub returns-in-Ok-clause-answers : goal.returns-in-Ok-clause-answers

@@ -1,4 +1,4 @@
-use Rattle.conversation.proofs.Conversations.{fed_by}
+use Rattle.session.proofs.conversation.Conversations.{fed_by}
 use Rattle.session.proofs.session_core.CoreState.feed_framed.Goals as goal
 
 pub returns-in-Ok-answer_fed-clause-answers : goal.returns-in-Ok-answer_fed-clause-answers

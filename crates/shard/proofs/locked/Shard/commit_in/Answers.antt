@@ -1,5 +1,5 @@
 use Rattle.std.proofs.Common.{ap, ◌∙◌}
-use Rattle.shard_law.specs.Entries.{ShardView}
+use Rattle.shard_contents.specs.Entries.{ShardView}
 use Rattle.std.specs.Sync.Mutex.{mutex_guard_value}
 use Rattle.shard.proofs.Found.{found_past}
 use Rattle.shard.proofs.locked.Shard.commit_in.Goals as goal

@@ -1,5 +1,5 @@
 use Rattle.std.proofs.Common.{rules, sym, ap, subst, ◌∙◌}
-use Rattle.shard_law.specs.Entries.{ShardView}
+use Rattle.shard_contents.specs.Entries.{ShardView}
 use Rattle.std.proofs.lemmas.Result.{err_from_is_err_and}
 use Rattle.std.specs.Sync.Mutex.{mutex_guard_value}
 use Rattle.journal.specs.Views.{PassView}

@@ -1,6 +1,6 @@
 use Rattle.std.proofs.Common.{sym, ap, ◌∙◌}
 use Rattle.shard_run.specs.Runs.{mode, answers_queries}
-use Rattle.shard_law.specs.Entries.{ShardView}
+use Rattle.shard_contents.specs.Entries.{ShardView}
 use Rattle.shard_contents.specs.Shards.{read, not_serving}
 use Rattle.shard_contents.proofs.States.{serves_is}
 use Rattle.shard.specs.inner.Snapshots.{answered, begun}

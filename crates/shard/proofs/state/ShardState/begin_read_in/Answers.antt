@@ -3,9 +3,9 @@ use Rattle.std.proofs.lemmas.Result.{err_from_is_err_and}
 use Rattle.vschema.specs.declared.changes.RowChange.{RowChange}
 use Rattle.vschema.specs.Database.{Database, all_applied}
 use Rattle.vschema.specs.Sources.{source_rows, SourcesThere}
-use Rattle.sql_eval.specs.Groups.{CanBeSummed}
+use Rattle.shard_contents.specs.Groups.{CanBeSummed}
 use Rattle.shard_run.specs.Runs.{shard_rows, stored_on}
-use Rattle.shard_law.specs.Entries.{ShardView, seat_view}
+use Rattle.shard_contents.specs.Entries.{ShardView, seat_view}
 use Rattle.shard_contents.specs.Transactions.{PendingView}
 use Rattle.shard_contents.specs.Transactions as t
 use Rattle.shard_contents.specs.inner.Earlier.{AllHadRows}

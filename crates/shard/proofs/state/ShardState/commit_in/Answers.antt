@@ -6,8 +6,8 @@ use Rattle.vschema.specs.declared.changes.RowChange.{RowChange}
 use Rattle.vschema.specs.Database.{Database, SameRows, all_applied}
 use Rattle.shard_run.specs.declared.Entry.{Entry}
 use Rattle.shard_run.specs.Runs.{mode, answers_queries, stored_changes}
-use Rattle.shard_law.specs.declared.limits.Limits.{Limits}
-use Rattle.shard_law.specs.Entries.{commit_of, seat_view}
+use Rattle.shard_contents.specs.Limits.{Limits}
+use Rattle.shard_contents.specs.Entries.{commit_of, seat_view}
 use Rattle.shard_contents.specs.Transactions as t
 use Rattle.shard_contents.specs.KeptEntries.{kept_of}
 use Rattle.shard_contents.proofs.States.{same_contents, names_none, lives_if}
@@ -112,4 +112,4 @@ returns-clause-later g c = (left g c).begins
 pub returns-clause-stands : goal.returns-clause-stands
 returns-clause-stands g c =
     let is = left g c in
-    subst (λ s. Rattle.shard_law.specs.Legal.IsOnItsSlot g.W.World.opening c.append.new.self.seen s) is.shard_now is.is_now.stands
+    subst (λ s. Rattle.shard_contents.specs.Legal.IsOnItsSlot g.W.World.opening c.append.new.self.seen s) is.shard_now is.is_now.stands

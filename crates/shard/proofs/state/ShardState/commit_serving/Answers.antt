@@ -5,22 +5,22 @@ use Rattle.vschema.specs.declared.schema.VSchema.{VSchema}
 use Rattle.journal.specs.Views.{SeatView, PassView}
 use Rattle.shard_run.specs.declared.Entry.{Entry}
 use Rattle.shard_run.specs.declared.Mode.TheVariants.{Serving}
-use Rattle.shard_law.proofs.Typed.{table_there}
+use Rattle.shard_contents.proofs.Typed.{table_there}
 use Rattle.shard_contents.proofs.States.{after_look, names_after_look, same_contents, holds_of, lives_if, names_none}
 use Rattle.shard_contents.specs.Commits.{IsPlaced}
 use Rattle.shard_contents.specs.KeptEntries.{kept_of}
-use Rattle.shard_law.specs.Entries.{ShardView, commit_of}
+use Rattle.shard_contents.specs.Entries.{ShardView, commit_of}
 use Rattle.shard_contents.specs.Shards.{Holds, IsAfter, RetiredFor}
 use Rattle.shard_contents.specs.declared.contents.Contents.{Contents}
-use Rattle.shard_law.specs.declared.limits.Limits.{Limits}
+use Rattle.shard_contents.specs.Limits.{Limits}
 use Rattle.shard_run.specs.declared.ShardRecord.{ShardRecord}
-use Rattle.shard_law.specs.Legal.{IsOnItsSlot}
+use Rattle.shard_contents.specs.Legal.{IsOnItsSlot}
 use Rattle.shard_run.specs.Runs.{Opening, Run, mode, answers_queries, held_changes, stored_changes}
 use Rattle.vschema.specs.declared.changes.Write.{Write}
 use Rattle.vschema.specs.declared.changes.RowChange.{RowChange}
 use Rattle.journal.specs.Runs.{NumbersBelow}
 use Rattle.vschema.specs.Database.{Database, SameRows, all_applied}
-use Rattle.sql_eval.specs.Writes.{changes_of}
+use Rattle.shard_contents.specs.Writes.{changes_of}
 use Rattle.shard_contents.specs.inner.StoredLogs.{StoredLog, HasStoredNext}
 use Rattle.shard_contents.proofs.Earlier.{all_had_next, all_had_same}
 use Rattle.shard.proofs.Steps as steps

@@ -10,7 +10,7 @@ use Rattle.shard_run.specs.declared.Event.TheVariants.{Copy}
 use Rattle.shard_run.specs.Runs.{mode, held_changes}
 use Rattle.shard_contents.specs.declared.target_steps.TargetStep.{TargetStep}
 use Rattle.shard_contents.specs.Kept.{keep}
-use Rattle.shard_law.specs.Entries.{MayFollow}
+use Rattle.shard_contents.specs.Entries.{MayFollow}
 use Rattle.shard_contents.specs.Shards.{RetiredFor}
 use Rattle.shard_contents.proofs.Looks.{following_lives}
 use Rattle.shard_contents.proofs.States.{looked, same_contents, names_none}

@@ -2,8 +2,8 @@ use Rattle.std.proofs.Common.{ℕ, sym, ap, ◌∙◌}
 use Rattle.std.specs.Prelude.{nat_le}
 use Rattle.shard_run.specs.Runs.{mode, shard_rows}
 use Rattle.shard_run.specs.Openings.{row_count}
-use Rattle.shard_law.specs.declared.limits.Limits.{Limits}
-use Rattle.shard_law.specs.Entries.{ShardView}
+use Rattle.shard_contents.specs.Limits.{Limits}
+use Rattle.shard_contents.specs.Entries.{ShardView}
 use Rattle.shard_contents.proofs.Bags.{row_count-same}
 use Rattle.shard_contents.proofs.States.{holds_of}
 use Rattle.shard.proofs.state.ShardState.fits.Goals as goal

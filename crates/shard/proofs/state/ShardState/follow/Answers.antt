@@ -8,11 +8,11 @@ use Rattle.shard_run.specs.declared.ShardRecord.{ShardRecord}
 use Rattle.shard_run.specs.declared.Entry.{Entry}
 use Rattle.shard_run.specs.declared.Event.TheVariants.{Follow}
 use Rattle.shard_run.specs.Runs.{mode, shard_rows}
-use Rattle.shard_law.specs.declared.limits.Limits.{Limits}
+use Rattle.shard_contents.specs.Limits.{Limits}
 use Rattle.shard_contents.specs.Kept.{keep}
 use Rattle.shard_contents.specs.KeptEntries.{kept_of}
 use Rattle.shard_contents.specs.declared.target_steps.TargetStep.TheVariants.{Followed}
-use Rattle.shard_law.specs.Entries.{ShardView, MayFollow}
+use Rattle.shard_contents.specs.Entries.{ShardView, MayFollow}
 use Rattle.shard_contents.specs.Shards.{RetiredFor}
 use Rattle.shard_contents.proofs.Looks.{following_lives}
 use Rattle.shard_contents.proofs.States.{looked, same_contents, names_none}
@@ -22,7 +22,7 @@ use Rattle.shard_contents.proofs.StepRoom.{room_by_entries, room_by_stored}
 use Rattle.shard_contents.proofs.Legality.{legal_is}
 use Rattle.shard_contents.specs.inner.Transactions.{has_room_for}
 use Rattle.shard_contents.specs.inner.StoredLogs.{StoredLog, count_of, HasStoredNext}
-use Rattle.shard_law.specs.Law.{SourcesApart}
+use Rattle.shard_contents.specs.Law.{SourcesApart}
 use Rattle.shard_run.specs.Openings.{row_count}
 use Rattle.shard_run.proofs.Sent.{entry_send}
 use Rattle.shard.proofs.FollowCounts.{follow_within}

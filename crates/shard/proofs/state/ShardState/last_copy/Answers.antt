@@ -5,7 +5,7 @@ use Rattle.journal.specs.Runs.{IsLegal}
 use Rattle.shard_contents.specs.declared.target_steps.TargetStep.{TargetStep}
 use Rattle.shard_contents.specs.Kept.{is_copy_from}
 use Rattle.shard_contents.specs.Progress.{steps_on}
-use Rattle.shard_law.specs.Entries.{ShardView, MayFollow}
+use Rattle.shard_contents.specs.Entries.{ShardView, MayFollow}
 use Rattle.shard_contents.proofs.Legality.{legal_is}
 use Rattle.shard_contents.proofs.Progress.{copy_told, last_copy, last_copy-push, take_whole}
 use Rattle.shard.specs.inner.Reached.{IsLastCopy}

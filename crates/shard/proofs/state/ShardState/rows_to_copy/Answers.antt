@@ -4,7 +4,7 @@ use Rattle.vschema.specs.Database.{rows_of}
 use Rattle.journal.specs.Runs.{IsLegal}
 use Rattle.shard_run.specs.Copies.{table_at}
 use Rattle.shard_run.specs.Runs.{mode, answers_queries, stored_on}
-use Rattle.shard_law.specs.Entries.{ShardView, MayFollow}
+use Rattle.shard_contents.specs.Entries.{ShardView, MayFollow}
 use Rattle.shard_contents.specs.Copying.{IsCopyFor}
 use Rattle.shard_contents.proofs.Legality.{legal_is}
 use Rattle.shard_contents.specs.inner.StoredLogs.{StoredLog}

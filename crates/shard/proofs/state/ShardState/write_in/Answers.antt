@@ -3,7 +3,7 @@ use Rattle.std.proofs.lemmas.Result.{err_from_is_err_and}
 use Rattle.vt_value.specs.declared.refusal.Refusal.TheVariants.{OutOfMemory, DuplicateKey}
 use Rattle.vschema.specs.declared.changes.Write.{Write}
 use Rattle.vschema.specs.Database.{all_applied}
-use Rattle.sql_eval.specs.Writes.{written_table, changes_of}
+use Rattle.shard_contents.specs.Writes.{written_table, changes_of}
 use Rattle.shard_contents.specs.Transactions.{PendingView, IsStopped, IsWriteRefusal, HasWrittenIn}
 use Rattle.shard_contents.specs.Transactions as t
 use Rattle.shard.proofs.LooksIn as l

@@ -1,7 +1,7 @@
 use Rattle.std.proofs.Common.{refl, sym}
 use Rattle.std.proofs.lemmas.Result.{err_from_is_err_and}
 use Rattle.vschema.specs.Database.{rows_of}
-use Rattle.sql_eval.specs.Writes.{written_table}
+use Rattle.shard_store.specs.Writes.{written_table}
 use Rattle.shard_contents.proofs.Changes.{table_read, unprepared, no_room}
 use Rattle.shard_contents.proofs.contents.Contents.changes.Goals as goal
 

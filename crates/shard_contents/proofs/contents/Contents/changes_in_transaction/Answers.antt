@@ -1,6 +1,6 @@
 use Rattle.std.proofs.Common.{ap, sym, ◌∙◌}
 use Rattle.vschema.specs.Database.{rows_of, all_applied}
-use Rattle.sql_eval.specs.Writes.{written_table}
+use Rattle.shard_store.specs.Writes.{written_table}
 use Rattle.shard_contents.proofs.Changes.{table_read, whole_changes, whole_refused}
 use Rattle.shard_contents.proofs.OneTable.{others_kept}
 use Rattle.shard_contents.proofs.contents.Contents.changes_in_transaction.Goals as goal

@@ -4,7 +4,7 @@ use Rattle.std.specs.List.{AllByRecursion}
 use Rattle.vschema.specs.declared.changes.RowChange.{RowChange}
 use Rattle.vschema.specs.Schema.{no_table}
 use Rattle.vschema.specs.Database.{rows_of, changed_table}
-use Rattle.sql_eval.specs.Writes.{written_table}
+use Rattle.shard_store.specs.Writes.{written_table}
 use Rattle.shard_store.specs.Stores.{IsReadyFor}
 use Rattle.shard_contents.specs.inner.Commits.{no_memory}
 use Rattle.shard_contents.proofs.Changes.{of_table, there_all}

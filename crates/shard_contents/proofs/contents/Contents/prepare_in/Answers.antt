@@ -1,7 +1,7 @@
 use Rattle.std.proofs.Common.{◌≡◌, List, ap, sym, ◌∙◌}
 use Rattle.std.proofs.lemmas.Result.{err_from_is_err_and}
 use Rattle.vschema.specs.declared.changes.RowChange.{RowChange}
-use Rattle.shard_run.specs.Openings.{row_count}
+use Rattle.shard_law.specs.Openings.{row_count}
 use Rattle.shard_contents.specs.Transactions.{PendingView}
 use Rattle.shard_contents.specs.inner.Transactions.{has_room_for, no_memory, full}
 use Rattle.shard_contents.specs.inner.StoredLogs.{count_of}

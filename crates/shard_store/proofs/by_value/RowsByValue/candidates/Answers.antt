@@ -1,7 +1,7 @@
 use Rattle.std.proofs.Common.{◌≡◌, ◌∙◌, ◌+◌, true, ap, filter, subst, sym}
 use Rattle.std.proofs.lemmas.Result.{IfOk-weaker}
 use Rattle.vt_value.specs.declared.value.Value.{Value}
-use Rattle.vschema.specs.Sources.{is_pair}
+use Rattle.sql_eval.specs.Sources.{is_pair}
 use Rattle.shard_store.specs.inner.Joined.{ColumnRows, has_value}
 use Rattle.shard_store.proofs.KeptRows.{filter_weaker}
 use Rattle.shard_store.proofs.KeptPairs.{partner_has, null_is_alone}

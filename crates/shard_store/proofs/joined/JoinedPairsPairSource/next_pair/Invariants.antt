@@ -1,5 +1,5 @@
 use Rattle.std.proofs.Common.{◌≡◌, ◌++◌, length, filter}
-use Rattle.vschema.specs.Sources.{pairs_of}
+use Rattle.sql_eval.specs.Sources.{pairs_of}
 use Rattle.shard_store.specs.inner.Joined.{passes}
 use Rattle.shard_store.specs.inner.Partners.{current_pairs}
 use Rattle.shard_store.proofs.joined.JoinedPairsPairSource.next_pair.Given as goal

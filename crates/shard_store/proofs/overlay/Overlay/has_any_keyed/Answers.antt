@@ -2,8 +2,8 @@ use Rattle.std.proofs.Common.{◌≡◌, ◌∙◌, ◌||◌, Bool, true, false,
 use Rattle.std.specs.List.{list_any}
 use Rattle.std.proofs.lemmas.List.Sorted.{list_any-IsPermutation}
 use Rattle.vt_value.specs.Values.{Row}
-use Rattle.vschema.specs.Schema.{key_of}
-use Rattle.vschema.specs.Database.{same_row}
+use Rattle.sql_eval.specs.Schema.{key_of}
+use Rattle.sql_eval.specs.Database.{same_row}
 use Rattle.shard_store.specs.Slots.{rows_in}
 use Rattle.shard_store.specs.Tables.{key_at}
 use Rattle.shard_store.specs.Stores.{ChangedView}

@@ -1,6 +1,6 @@
 use Rattle.std.proofs.Common.{◌∙◌, ◌++◌, List, ap, sym}
 use Rattle.vt_value.specs.Values.{Row}
-use Rattle.vschema.specs.Database.{without}
+use Rattle.sql_eval.specs.Database.{without}
 use Rattle.shard_store.specs.Slots.{rows_in}
 use Rattle.shard_store.specs.Stores.{ChangedView}
 use Rattle.shard_store.specs.inner.Joined.{rows_lent}

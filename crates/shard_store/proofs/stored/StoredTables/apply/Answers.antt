@@ -1,7 +1,7 @@
 use Rattle.std.proofs.Common.{rules, ◌≡◌, ◌∙◌, List, [], refl, sym, subst}
 use Rattle.std.specs.List.{AllByRecursion}
 use Rattle.std.specs.Vec.Iter.{into_iter_items}
-use Rattle.vschema.specs.Database.{Database, SameRows, all_applied}
+use Rattle.sql_eval.specs.Database.{Database, SameRows, all_applied}
 use Rattle.shard_store.specs.declared.key.KeyedChange.{KeyedChange}
 use Rattle.shard_store.specs.Stores.{changes_in, HasItsKey, HasRoomFor}
 use Rattle.shard_store.proofs.Tabled.{Reached, reached_first, reached_next, reached_last, room-first, room-others, key_first, keys_others}

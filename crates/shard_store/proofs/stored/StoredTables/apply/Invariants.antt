@@ -1,7 +1,7 @@
 use Rattle.std.proofs.Common.{◌≡◌}
 use Rattle.std.specs.List.{AllByRecursion}
 use Rattle.std.specs.Vec.Iter.{into_iter_items}
-use Rattle.vschema.specs.Database.{all_applied}
+use Rattle.sql_eval.specs.Database.{all_applied}
 use Rattle.shard_store.specs.Stores.{changes_in, HasItsKey, HasRoomFor}
 use Rattle.shard_store.proofs.Tabled.{Reached}
 use Rattle.shard_store.proofs.stored.StoredTables.apply.Given as goal

@@ -1,6 +1,6 @@
 use Rattle.std.proofs.Common.{◌≡◌, ◌∙◌, ℕ, map, filter, ap, sym}
-use Rattle.vschema.specs.declared.changes.RowChange.TheVariants.{Removed}
-use Rattle.vschema.specs.Database.{rows_of}
+use Rattle.sql_eval.specs.RowChange.TheVariants.{Removed}
+use Rattle.sql_eval.specs.Database.{rows_of}
 use Rattle.sql_eval.specs.Conditions.{is_kept}
 use Rattle.sql_eval.specs.Writes.{written_table}
 use Rattle.sql_eval.proofs.ChangeLemmas.{deletes}

@@ -2,8 +2,8 @@ use Rattle.std.proofs.Common.{◌≡◌, List, [], false, sym, subst, refl}
 use Rattle.std.specs.Prelude.{IfOk}
 use Rattle.std.specs.List.{list_any}
 use Rattle.vt_value.specs.Values.{Row}
-use Rattle.vschema.specs.Schema.{key_of}
-use Rattle.vschema.specs.Database.{same_row}
+use Rattle.sql_eval.specs.Schema.{key_of}
+use Rattle.sql_eval.specs.Database.{same_row}
 use Rattle.shard_store.proofs.KeptRows.{none_any}
 use Rattle.shard_store.proofs.stored.StoredTables.has_any_key.Goals as goal
 

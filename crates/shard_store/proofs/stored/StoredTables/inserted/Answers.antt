@@ -2,8 +2,8 @@ use Rattle.std.proofs.Common.{◌≡◌, ◌⊎◌, ◌∙◌, List, Result, Ok,
 use Rattle.std.specs.Prelude.{IfOk, IfErr}
 use Rattle.vt_value.specs.declared.refusal.Refusal.{Refusal}
 use Rattle.vt_value.specs.declared.refusal.Refusal.TheVariants.{OutOfMemory}
-use Rattle.vschema.specs.declared.changes.RowChange.{RowChange}
-use Rattle.vschema.specs.Database.{rows_of}
+use Rattle.sql_eval.specs.RowChange.{RowChange}
+use Rattle.sql_eval.specs.Database.{rows_of}
 use Rattle.shard_store.proofs.KeptRows.{insert_refused, insert_of_none}
 use Rattle.shard_store.proofs.stored.StoredTables.inserted.Goals as goal
 

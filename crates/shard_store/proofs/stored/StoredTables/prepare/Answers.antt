@@ -1,6 +1,6 @@
 use Rattle.std.proofs.Common.{◌<◌, length, sym, subst}
 use Rattle.std.specs.List.{AllByRecursion}
-use Rattle.vschema.specs.Database.{changed_table}
+use Rattle.sql_eval.specs.Database.{changed_table}
 use Rattle.shard_store.specs.declared.key.KeyedChange.{KeyedChange}
 use Rattle.shard_store.specs.Stores.{change_in, HasReadySlot, HasRoomFor}
 use Rattle.shard_store.proofs.Splits.{keyed_there}

@@ -1,7 +1,7 @@
 use Rattle.std.proofs.Common.{◌≡◌, ◌∙◌, ◌++◌, ◌∷◌, [], List, sym, ap, subst, rules}
 use Rattle.std.proofs.lemmas.Result.{IfOk-weaker}
-use Rattle.vschema.specs.declared.changes.RowChange.{RowChange}
-use Rattle.vschema.specs.declared.changes.RowChange.TheVariants.{Replaced, Removed}
+use Rattle.sql_eval.specs.RowChange.{RowChange}
+use Rattle.sql_eval.specs.RowChange.TheVariants.{Replaced, Removed}
 use Rattle.shard_store.specs.Stores.{changes_in}
 use Rattle.shard_store.specs.inner.Stores.{DoTheSame}
 use Rattle.shard_store.proofs.Splits.{same_two}

@@ -1,6 +1,6 @@
 use Rattle.std.proofs.Common.{ℕ, ◌++◌, ◌∷◌, [], ◌==◌, ◌∙◌, List, cond, get_or, set, sym, ap, subst, arith, refl, eq-eqb}
 use Rattle.vt_value.specs.Values.{Row}
-use Rattle.vschema.specs.Database.{Database, SameRows}
+use Rattle.sql_eval.specs.Database.{Database, SameRows}
 use Rattle.shard_store.specs.Tables.{key_at}
 use Rattle.shard_store.specs.Stores.{RowsView, StoreView}
 use Rattle.shard_store.proofs.Tabled.{rows_of_all, changed, same_set, places-at, room-after, put-within, put-room, ready-after}

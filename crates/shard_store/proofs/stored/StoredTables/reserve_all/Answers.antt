@@ -1,6 +1,6 @@
 use Rattle.std.proofs.Common.{◌≡◌, ◌≤◌, length, subst, ap, arith, ◌∙◌, take}
 use Rattle.std.specs.List.{AllByRecursion}
-use Rattle.vschema.specs.Database.{changed_table}
+use Rattle.sql_eval.specs.Database.{changed_table}
 use Rattle.shard_store.specs.declared.key.KeyedChange.{KeyedChange}
 use Rattle.shard_store.specs.Stores.{room_of, change_in, HasReadySlot}
 use Rattle.shard_store.proofs.Splits.{room_next, ready_next, room_for_all, take_all}

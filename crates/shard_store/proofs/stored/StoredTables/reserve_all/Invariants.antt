@@ -1,6 +1,6 @@
 use Rattle.std.proofs.Common.{◌≡◌, ◌≤◌, length, take}
 use Rattle.std.specs.List.{AllByRecursion}
-use Rattle.vschema.specs.Database.{changed_table}
+use Rattle.sql_eval.specs.Database.{changed_table}
 use Rattle.shard_store.specs.Stores.{room_of, change_in, HasReadySlot}
 use Rattle.shard_store.proofs.stored.StoredTables.reserve_all.Given as goal
 

@@ -1,8 +1,8 @@
 use Rattle.std.proofs.Common.{◌∙◌, List, ap, sym, subst}
 use Rattle.std.specs.Prelude.{IfOk}
 use Rattle.vt_value.specs.Values.{Row}
-use Rattle.vschema.specs.Database.{rows_of}
-use Rattle.vschema.specs.Sources.{pairs_of}
+use Rattle.sql_eval.specs.Database.{rows_of}
+use Rattle.sql_eval.specs.Sources.{pairs_of}
 use Rattle.sql_eval.specs.Queries.{IsAnswer}
 use Rattle.shard_store.proofs.KeptPairs.{no_seconds}
 use Rattle.shard_store.proofs.stored.StoredTables.select_pairs.Goals as goal

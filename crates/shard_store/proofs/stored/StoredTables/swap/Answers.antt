@@ -1,6 +1,6 @@
 use Rattle.std.proofs.Common.{ℕ, IsSome, ◌++◌, ◌∷◌, [], ◌==◌, ◌∙◌, List, cond, get_or, set, sym, ap, subst, arith, refl, eq-eqb}
 use Rattle.vt_value.specs.Values.{Row}
-use Rattle.vschema.specs.Database.{Database, SameRows, without}
+use Rattle.sql_eval.specs.Database.{Database, SameRows, without}
 use Rattle.shard_store.specs.Slots.{Slot, slot_at}
 use Rattle.shard_store.specs.Tables.{key_at}
 use Rattle.shard_store.specs.Stores.{RowsView, StoreView}

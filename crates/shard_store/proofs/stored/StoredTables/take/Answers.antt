@@ -1,6 +1,6 @@
 use Rattle.std.proofs.Common.{◌<◌, ◌≤◌, ◌∙◌, ℕ, IsSome, List, [], length, get_or, set, sym, ap, subst, arith}
 use Rattle.std.proofs.lemmas.List.{length-map}
-use Rattle.vschema.specs.Database.{Database, SameRows, without}
+use Rattle.sql_eval.specs.Database.{Database, SameRows, without}
 use Rattle.shard_store.specs.Slots.{Slot, slot_at}
 use Rattle.shard_store.specs.Tables.{key_at}
 use Rattle.shard_store.specs.Stores.{RowsView, StoreView}

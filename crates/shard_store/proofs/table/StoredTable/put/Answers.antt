@@ -1,6 +1,6 @@
 use Rattle.std.proofs.Common.{◌≡◌, None, is_some, true, sym, subst, rules, arith}
 use Rattle.std.specs.List.{list_any}
-use Rattle.vschema.specs.Database.{same_row}
+use Rattle.sql_eval.specs.Database.{same_row}
 use Rattle.shard_store.specs.Slots.{rows_in}
 use Rattle.shard_store.specs.Tables.{TableView, key_at}
 use Rattle.shard_store.specs.inner.Slots.{is_row}

@@ -1,7 +1,7 @@
 use Rattle.std.proofs.Common.{◌≡◌, ◌∙◌, IsPermutation, List, sym, subst, arith, true≢false}
 use Rattle.std.proofs.lemmas.List.Sorted.{IsPermutation-refl}
 use Rattle.vt_value.specs.Values.{Row}
-use Rattle.vschema.specs.Database.{without}
+use Rattle.sql_eval.specs.Database.{without}
 use Rattle.shard_store.specs.Slots.{rows_in}
 use Rattle.shard_store.specs.Tables.{TableView, key_at}
 use Rattle.shard_store.proofs.Keyed.{not_there, keyed_taken, slot_of_row}

@@ -1,7 +1,7 @@
 use Rattle.std.proofs.Common.{◌≡◌, ◌∙◌, ◌++◌, Option, List, ap, filter, sym}
 use Rattle.std.specs.Prelude.{slice_index}
 use Rattle.vt_value.specs.Values.{Row}
-use Rattle.vschema.specs.Sources.{pairs_of}
+use Rattle.sql_eval.specs.Sources.{pairs_of}
 use Rattle.sql_eval.specs.Conditions.{is_kept}
 use Rattle.shard_store.specs.declared.equalities.Fixed.{Fixed}
 use Rattle.shard_store.specs.Slots.{rows_in}

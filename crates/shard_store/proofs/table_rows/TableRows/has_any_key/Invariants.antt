@@ -1,7 +1,7 @@
 use Rattle.std.proofs.Common.{◌≡◌, drop}
 use Rattle.std.specs.List.{list_any}
-use Rattle.vschema.specs.Schema.{key_of}
-use Rattle.vschema.specs.Database.{same_row}
+use Rattle.sql_eval.specs.Schema.{key_of}
+use Rattle.sql_eval.specs.Database.{same_row}
 use Rattle.shard_store.proofs.table_rows.TableRows.has_any_key.Given as goal
 
 -- the other new rows decide it

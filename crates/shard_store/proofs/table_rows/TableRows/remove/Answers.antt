@@ -1,7 +1,7 @@
 use Rattle.std.proofs.Common.{◌≡◌, ◌∙◌, ◌++◌, List, IsPermutation, sym, ap, subst}
 use Rattle.std.proofs.lemmas.List.Sorted.{IsPermutation-refl}
 use Rattle.vt_value.specs.Values.{Row}
-use Rattle.vschema.specs.Database.{without}
+use Rattle.sql_eval.specs.Database.{without}
 use Rattle.shard_store.specs.Slots.{rows_in}
 use Rattle.shard_store.specs.Stores.{RowsView}
 use Rattle.shard_store.proofs.TwoLists.{any_of_perm_left, without_right}

@@ -1,7 +1,7 @@
 use Rattle.std.proofs.Common.{◌≡◌, ◌∙◌, ◌++◌, ◌∷◌, [], Bool, true, false, List, IsPermutation, sym, ap, subst, rules}
 use Rattle.std.specs.List.{list_any}
 use Rattle.vt_value.specs.Values.{Row}
-use Rattle.vschema.specs.Database.{same_row, without}
+use Rattle.sql_eval.specs.Database.{same_row, without}
 use Rattle.shard_store.specs.Slots.{rows_in}
 use Rattle.shard_store.specs.Stores.{RowsView}
 use Rattle.shard_store.specs.Tables.{key_at}

@@ -1,7 +1,7 @@
 use Rattle.std.proofs.Common.{refl, List, subst, sym}
 use Rattle.std.proofs.lemmas.Result.{IfOk-weaker}
 use Rattle.vt_value.specs.Values.{Row}
-use Rattle.vschema.specs.Sources.{pairs_of}
+use Rattle.sql_eval.specs.Sources.{pairs_of}
 use Rattle.sql_eval.specs.Groups.{CanBeSummed}
 use Rattle.sql_eval.proofs.SameAnswers.{same_answers}
 use Rattle.shard_store.specs.Chosen.{rows_chosen}

@@ -5,7 +5,7 @@ use Rattle.std.proofs.lemmas.Fn.{always_returns_same}
 use Rattle.vt_value.specs.declared.value.Value.{Value}
 use Rattle.vt_value.specs.declared.value.Comparison.TheVariants.{Eq}
 use Rattle.vt_value.specs.Values.{value_cmp, compare, is_true, is_null}
-use Rattle.operators.proofs.OrderLemmas.{value_cmp-total}
+use Rattle.aggregate.proofs.OrderLemmas.{value_cmp-total}
 use Rattle.sql_eval.specs.KeyOrder.{on_lent}
 use Rattle.sql_eval.proofs.Lent.{found, rising}
 use Rattle.sql_eval.proofs.Members.{null_is_none, equal_among}

@@ -1,5 +1,5 @@
 use Rattle.std.proofs.Common.{ap}
-use Rattle.vtgate_setup.specs.ServeArgs.{ServeArgsView}
+use Rattle.vtgate_serve.specs.setup.ServeArgs.{ServeArgsView}
 use Rattle.vtgate_serve.proofs.admission.Admission.nonce.Goals as goal
 
 pub returns : goal.returns

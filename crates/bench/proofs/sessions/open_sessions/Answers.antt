@@ -1,6 +1,0 @@
-use denote.Param.Send.{sendable}
-use Rattle.shard_run.proofs.Sent.{entry_send}
-use Rattle.bench.proofs.sessions.open_sessions.Goals as goal
-
-pub open-requires-send-L-Entry : goal.open-requires-send-L-Entry
-open-requires-send-L-Entry g c κs within = search (entry_send, sendable)

@@ -1,5 +1,0 @@
-use Rattle.conversation.specs.GivesText as x
-use Rattle.conversation.proofs.local_answers.local_answer.Goals as goal
-
-pub returns-in-NotSupported : goal.returns-in-NotSupported
-returns-in-NotSupported c = rw (c.refused.ensures, c.in-NotSupported.is) x.not_supported

@@ -1,5 +1,0 @@
-use Rattle.conversation.specs.GivesText as x
-use Rattle.conversation.proofs.local_answers.reply_of_answer.Goals as goal
-
-pub returns-in-Refused : goal.returns-in-Refused
-returns-in-Refused c = rw (c.refused.ensures, c.in-Refused.is) x.refused

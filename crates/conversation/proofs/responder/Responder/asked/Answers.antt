@@ -1,8 +1,0 @@
-use Rattle.conversation.specs.inner.Means as y
-use Rattle.conversation.proofs.responder.Responder.asked.Goals as goal
-
-pub returns-in-Ok-clause-gives : goal.returns-in-Ok-clause-gives
-returns-in-Ok-clause-gives g c = c.answer_read-answered.ensures.gives c.args.text.now (record { asked = c.in-Ok.ensures.asked; only = c.in-Ok.ensures.only })
-
-pub returns-in-Err-clause-gives : goal.returns-in-Err-clause-gives
-returns-in-Err-clause-gives g c = λ s held. (s, held, rw c.refused.ensures y.unread)

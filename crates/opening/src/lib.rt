@@ -1,6 +1,0 @@
-//! The opening of a run over a VSchema and key ranges: its shards, without rows.
-#![tactic(auto)]
-
-mod shards;
-
-pub use shards::{empty_tables, opening_shards, ranges_fit, sharded_keyspace};

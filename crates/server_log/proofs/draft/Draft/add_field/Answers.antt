@@ -1,5 +1,0 @@
-use Rattle.server_log.proofs.Words.{visible-field}
-use Rattle.server_log.proofs.draft.Draft.add_field.Goals as goal
-
-pub add-requires : goal.add-requires
-add-requires g c = rw (c.deref.ensures.value, c.in_ok-field.ensures) (visible-field c.as_bytes.result.now c.as_bytes-2.result.now)

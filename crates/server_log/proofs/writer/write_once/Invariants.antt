@@ -1,7 +1,0 @@
-use Rattle.std.proofs.Common.{[]}
-use Rattle.std.specs.Io.KnownBytes.{Appends}
-use Rattle.server_log.proofs.writer.write_once.Given as goal
-
--- nothing was taken so far
-abbrev pub invariant-loop : goal.invariant-loop
-invariant-loop g l = Appends (g.W.Write.contents l.initial.device) (g.W.Write.contents l.device) []

@@ -1,0 +1,25 @@
+//! The bytes that answer a connection: its greeting, its login and its replies; and the connection's state.
+
+mod access;
+mod answers;
+mod client_reply;
+mod columns;
+mod connection_state;
+mod devices;
+mod end;
+mod local_answers;
+mod login;
+mod reply;
+mod responder;
+mod texts;
+
+pub use access::{Access, Handshake};
+pub use columns::columns_of;
+pub use connection_state::{
+    ConnectionState, PendingLogin, Phase, Settings, end_of, first_number, is_in_commands, is_new,
+};
+pub use devices::{DeviceFailed, Reader, Sink, Source, Writer};
+pub use end::{End, SessionFault};
+pub use login::{keyspace_named, put_answer, put_response};
+pub use reply::{REPLY_ROOM, put_pong, put_refusal};
+pub use responder::{ReplyState, Responder};

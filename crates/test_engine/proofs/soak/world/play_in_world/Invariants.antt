@@ -1,0 +1,5 @@
+use Rattle.test_engine.proofs.soak.world.play_in_world.Given as goal
+
+-- the journal that was just opened
+abbrev pub ghosts-play_over : goal.ghosts-play_over
+ghosts-play_over g a = record { table = a.opened }

@@ -1,6 +1,0 @@
-use Rattle.opening.specs.Empty.{opening_of}
-use Rattle.test_router.proofs.scenes.play_by.Given as goal
-
--- the world of this VSchema and these ranges, within these limits
-abbrev pub ghosts-play_in_world : goal.ghosts-play_in_world
-ghosts-play_in_world g a = record { opening = opening_of a.schema a.ranges.now; limits = a.limits }

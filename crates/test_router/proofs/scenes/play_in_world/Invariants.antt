@@ -1,5 +1,0 @@
-use Rattle.test_router.proofs.scenes.play_in_world.Given as goal
-
--- the journal that was just opened
-abbrev pub ghosts-play_over : goal.ghosts-play_over
-ghosts-play_over g a = record { table = a.opened }

@@ -1,5 +1,0 @@
-use Rattle.test_shard_limits.proofs.playing.play.Given as goal
-
--- the journal that was just opened
-abbrev pub ghosts-act_in : goal.ghosts-act_in
-ghosts-act_in g a = record { table = a.opened }

@@ -1,9 +1,0 @@
-//! Writes and reads of a shard that has small limits, and the law of shards as others cite it.
-#![tactic(auto)]
-
-mod answers;
-mod playing;
-mod transactions;
-mod writing;
-
-pub use answers::answer;

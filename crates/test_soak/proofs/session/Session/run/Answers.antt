@@ -1,9 +1,0 @@
-use denote.Param.Send.{sendable}
-use Rattle.shard_run.proofs.Sent.{entry_send}
-use Rattle.test_soak.proofs.session.Session.run.Goals as goal
-
-pub session-requires-send-L-Entry : goal.session-requires-send-L-Entry
-session-requires-send-L-Entry g c κs within = search (entry_send, sendable)
-
-pub statements-requires-send-L-Entry : goal.statements-requires-send-L-Entry
-statements-requires-send-L-Entry g c κs within = search (entry_send, sendable)

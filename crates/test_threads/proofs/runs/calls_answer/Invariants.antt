@@ -1,5 +1,0 @@
-use Rattle.test_threads.proofs.runs.calls_answer.Given as goal
-
--- the table that was just opened
-abbrev pub ghosts-answers : goal.ghosts-answers
-ghosts-answers a = record { table = a.opened }

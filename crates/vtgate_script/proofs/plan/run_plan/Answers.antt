@@ -1,5 +1,0 @@
-use Rattle.std.proofs.Common.{sym, ◌∙◌}
-use Rattle.vtgate_script.proofs.plan.run_plan.Goals as goal
-
-pub returns-in-Err-clause-cause : goal.returns-in-Err-clause-cause
-returns-in-Err-clause-cause g c = λ two. c.in-Err.ensures.fault (sym c.refuse_plainly.ensures.status ∙ two)

@@ -1,6 +1,0 @@
-use denote.Param.Send.{sendable}
-use Rattle.shard_run.proofs.Sent.{entry_send}
-use Rattle.vtgate_script.proofs.script.run_in_world.Goals as goal
-
-pub new-requires-send-L-Entry : goal.new-requires-send-L-Entry
-new-requires-send-L-Entry g c κs within = search (entry_send, sendable)

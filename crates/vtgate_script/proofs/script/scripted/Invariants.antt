@@ -1,7 +1,0 @@
-use Rattle.shard_law.specs.Entries.{most_limits}
-use Rattle.opening.specs.Empty.{opening_of}
-use Rattle.vtgate_script.proofs.script.scripted.Given as goal
-
--- the world of this VSchema and these ranges, without rows
-abbrev pub ghosts-run_in_world : goal.ghosts-run_in_world
-ghosts-run_in_world g a = record { opening = opening_of a.schema a.ranges.now; limits = most_limits }
