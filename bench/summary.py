@@ -107,18 +107,12 @@ def slower(page):
         yield f"Slower than it, at least at some number of connections: {said} times as fast.{conflicts}"
 
 
-def threads(page):
-    said = []
-    for rows in page.get("Writes and point queries", []):
-        one, two = (next((it for it in rows if it["sessions"] == many), None) for many in ("1", "2"))
-        if one and two:
-            said.append(f"two sessions insert into one shard {float(two['INSERTs']) / float(one['INSERTs']):.2f} times as fast as one")
-    for rows in page.get("The journal", []):
-        four = next((it for it in rows if it[""].startswith("threads 4, a slot")), None)
-        if four:
-            said.append(f"four threads append to the journal {float(four['ratio']):.2f} times as fast as one, on slots of their own")
-    if said:
-        yield f"More threads don't mean more writes: {'; '.join(said)}."
+def sessions(page):
+    for rows in page.get("Sessions", []):
+        times = {(it["sessions"], it["where"]): it["ratio"] for it in rows}
+        apart, together = (times.get(("4", where)) for where in ("a shard each", "all on one shard"))
+        if apart and together:
+            yield f"Four sessions that insert at the same time have {apart} times the rate of one if each has a shard of its own, and {together} times on one shard."
 
 
 def splits(page):
@@ -154,7 +148,7 @@ def memory(page):
 
 def summary(text):
     page = sections(text)
-    lines = [line for part in (faster, slower, threads, reports, splits, memory) for line in part(page)]
+    lines = [line for part in (faster, slower, sessions, reports, splits, memory) for line in part(page)]
     return BEGIN + HEAD.lstrip("\n") + "".join(f"- {it}\n" for it in lines) + END + "\n" if lines else ""
 
 

@@ -15,7 +15,7 @@ sys.path[:0] = [str(TOP / "tests" / "clients"), str(TOP / "bench")]
 
 import packets  # noqa: E402
 import page  # noqa: E402
-from lines import names_of  # noqa: E402
+from measured import names_of  # noqa: E402
 from router import free_ports  # noqa: E402
 
 # How many rows an INSERT has at most: with two numbers each, less than a statement's 4,096 literals.
