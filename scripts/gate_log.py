@@ -32,7 +32,7 @@ class Counted:
 
 
 def read_log(text):
-    """Reads a log of scripts/time-gate. Only crates that the run proved are counted, and none that was kept from an earlier one."""
+    """Reads a log of scripts/time-gate. Only proofs of crates that the run proved are counted, and none that was kept from an earlier one."""
     found, name = Counted(), None
     proved = set(re.findall(r"^rt: (\w+) proved$", text, re.M))
     for line in text.splitlines():
@@ -48,7 +48,7 @@ def read_log(text):
                 found.command = int(seconds)
             elif crate == "rest":
                 found.rest = int(seconds)
-            elif crate in proved or not proved:
+            elif part == "edits" or crate in proved or not proved:
                 found.seconds.setdefault(crate, {})[part] = int(seconds)
         elif re.fullmatch(r"edits \w+( \d+)+", line):
             found.checks[words[1]] = [int(it) for it in words[2:]]
@@ -60,15 +60,20 @@ def read_log(text):
 
 
 def read_logs(paths):
-    """Reads a log, and later ones, of crates that were proved again; returns what was counted and the crates of the later logs."""
+    """Reads a log, and later ones, of what was proved or tried again; returns what was counted."""
     first, *later = (read_log(it.read_text(errors="replace")) for it in paths)
     for it in later:
-        for part in ("seconds", "checks", "drops", "megabytes", "functions"):
-            of_first = getattr(first, part)
-            for name in it.seconds:
-                of_first.pop(name, None)
-            of_first.update({name: told for name, told in getattr(it, part).items() if name in it.seconds})
-    return first, set().union(*(it.seconds for it in later))
+        for name, parts in it.seconds.items():
+            first.seconds.setdefault(name, {}).update(parts)
+        first.checks.update(it.checks)
+        proved = {name for name, parts in it.seconds.items() if "proof" in parts}
+        for part in ("drops", "megabytes", "functions"):
+            for name in proved:
+                getattr(first, part).pop(name, None)
+            getattr(first, part).update({name: told for name, told in getattr(it, part).items() if name in proved})
+        first.megabytes["together"] = max(first.megabytes.get("together", 0), it.megabytes.get("together", 0))
+        first.command, first.clock, first.rest = first.command + it.command, first.clock + it.clock, first.rest + it.rest
+    return first
 
 
 def read_page(text):
