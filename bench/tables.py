@@ -43,7 +43,7 @@ def table(head, rows):
 
 def busy(load):
     """Whether other work kept the machine busy as the run began, by its load average of a minute."""
-    said = "Other work kept the machine busy" if load > 0.5 else "The machine did nothing else"
+    said = "Other work kept the machine busy" if load > 1 else "The machine did nothing else"
     return f"{said}: its load average was {load:.1f} when the run began."
 
 
