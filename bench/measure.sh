@@ -19,8 +19,8 @@ if command -v rustc > /dev/null; then
     lookup=("$work/lookup")
 fi
 python3 "$top/bench/tables.py" "$(realpath "$program")" "${lookup[@]}" > "$work/page"
-for other in serve joins worst split load threads log instructions settings; do
-    sed -n "/^<!-- bench\/$other.sh begins/,/^<!-- bench\/$other.sh ends/p" "$document" >> "$work/page"
+for other in serve.sh joins.sh worst.sh split.sh split/scenes.py load.sh threads.sh log.sh instructions.sh settings.sh; do
+    sed -n "\|^<!-- bench/$other begins|,\|^<!-- bench/$other ends|p" "$document" >> "$work/page"
 done
 mv "$work/page" "$document"
 python3 "$top/bench/summary.py" "$document"

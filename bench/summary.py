@@ -115,6 +115,10 @@ def sessions(page):
             yield f"Four sessions that insert at the same time have {apart} times the rate of one if each has a shard of its own, and {together} times on one shard."
 
 
+def longest_of(row):
+    return f"{float(row['longest wait, ms']):.0f} ms ({row['scene']}; {row['statement']})"
+
+
 def splits(page):
     said, tables = [], page.get("Splits", [])
     for rows in tables:
@@ -127,6 +131,10 @@ def splits(page):
             said.append(f"while a shard changes hands a write waits up to {max(numbers(rows, 'longest wait, ms')):.1f} ms, and `switch` takes up to {max(numbers(rows, '`switch`, ms')):.0f} ms")
     if said:
         yield f"In a split {'; '.join(said)}."
+    for rows in page.get("Waits in splits", []):
+        stopped, others = ([it for it in rows if ("admin client" in it["scene"]) == is_stopped] for is_stopped in (True, False))
+        worst = [max(its, key=lambda it: float(it["longest wait, ms"])) for its in (others, stopped) if its]
+        yield f"In scenes that could make a client wait for a split it waits up to {' and '.join(longest_of(it) for it in worst)}."
 
 
 def reports(page):
