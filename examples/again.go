@@ -1,7 +1,9 @@
+//usr/bin/env GO111MODULE=off GOPATH=/usr/share/gocode go run "$0" "$@"; exit $?
+
 // Moves an amount from one row to another of the same shard, and begins again if another session was faster.
 //
-// Usage: GO111MODULE=off GOPATH=/usr/share/gocode go run examples/again.go [PORT]
-// It goes with examples/serve.sh, and needs go-sql-driver/mysql (Debian: golang-go, golang-github-go-sql-driver-mysql-dev).
+// Usage: examples/again.go [PORT]
+// A shell runs the first line, and go takes it for a comment. It goes with examples/serve.sh, and needs go-sql-driver/mysql (Debian: golang-go, golang-github-go-sql-driver-mysql-dev).
 package main
 
 import (
@@ -64,16 +66,16 @@ func main() {
 		log.Fatal(err)
 	}
 	defer db.Close()
-	// The lowest bits of an id decide its shard: 4 and 8 lie on one.
-	for _, text := range []string{"DELETE FROM t WHERE id = 4", "DELETE FROM t WHERE id = 8", "INSERT INTO t VALUES (4, 100), (8, 0)"} {
+	// The lowest bits of an id decide its shard: 8 and 16 lie on one, also after -40 was split into -20 and 20-40.
+	for _, text := range []string{"DELETE FROM t WHERE id = 8", "DELETE FROM t WHERE id = 16", "INSERT INTO t VALUES (8, 100), (16, 0)"} {
 		if _, err := db.Exec(text); err != nil {
 			log.Fatal(err)
 		}
 	}
-	if err := moveInTheEnd(db, 4, 8, 30); err != nil {
+	if err := moveInTheEnd(db, 8, 16, 30); err != nil {
 		log.Fatal(err)
 	}
-	rows, err := db.Query("SELECT id, c FROM t WHERE id IN (4, 8) ORDER BY id")
+	rows, err := db.Query("SELECT id, c FROM t WHERE id IN (8, 16) ORDER BY id")
 	if err != nil {
 		log.Fatal(err)
 	}

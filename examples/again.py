@@ -45,13 +45,13 @@ def main():
     # autocommit=None: the router commits each statement outside a transaction by itself, and PyMySQL asks for nothing
     connection = pymysql.connect(host="127.0.0.1", port=port, user="app", database="shop", autocommit=None)
     with connection.cursor() as cursor:
-        # the lowest bits of an id decide its shard: 4 and 8 lie on one
-        cursor.execute("DELETE FROM t WHERE id = 4")
+        # the lowest bits of an id decide its shard: 8 and 16 lie on one, also after -40 was split into -20 and 20-40
         cursor.execute("DELETE FROM t WHERE id = 8")
-        cursor.execute("INSERT INTO t VALUES (4, 100), (8, 0)")
-    move_in_the_end(connection, 4, 8, 30)
+        cursor.execute("DELETE FROM t WHERE id = 16")
+        cursor.execute("INSERT INTO t VALUES (8, 100), (16, 0)")
+    move_in_the_end(connection, 8, 16, 30)
     with connection.cursor() as cursor:
-        cursor.execute("SELECT id, c FROM t WHERE id IN (4, 8) ORDER BY id")
+        cursor.execute("SELECT id, c FROM t WHERE id IN (8, 16) ORDER BY id")
         print(*cursor.fetchall())
 
 
