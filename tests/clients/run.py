@@ -547,6 +547,19 @@ def splits_live(program):
         check("all rows after splits", got, [[f"2000|10|{9 + len(LIBRARIES)}", "rows 1"]])
 
 
+def runs_examples_after_a_split(program):
+    """What examples/again moves lies on one shard, before README's split and after it."""
+    with Router(program) as router:
+        for when in ("before", "after"):
+            for call in (["/usr/bin/python3", "again.py"], ["sh", "again.go"]):
+                call[1:] = [TOP / "examples" / call[1], str(router.port)]
+                ended = subprocess.run(call, stdin=subprocess.DEVNULL, capture_output=True, text=True, timeout=120)
+                check(f"{call[1].name} {when} a split: status", (ended.returncode, ended.stderr), (0, ""))
+                check(f"{call[1].name} {when} a split", re.findall("[0-9]+", ended.stdout), ["8", "70", "16", "30"])
+            if when == "before":
+                check("README's split", router.admin("create -40 -20,20-40", "switch", "complete"), ["ok"] * 3)
+
+
 def ends_by_itself(program):
     with Router(program, connections=2) as router:
         for _ in range(2):
@@ -634,6 +647,7 @@ def main():
         keeps_no_descriptors,
         answers_admin_lines,
         splits_live,
+        runs_examples_after_a_split,
         ends_by_itself,
         words_are_tested,
     ):
