@@ -19,7 +19,7 @@ done
 have_packages mariadb-client iproute2
 room=$(mktemp -d)
 trap 'rm -rf "$room"' EXIT
-git clone -q "$top" "$room/clone"
+git -c advice.detachedHead=false clone -q "$top" "$room/clone"
 
 apart=(unshare --net)
 [ "$(id -u)" = 0 ] || apart+=(--map-root-user)

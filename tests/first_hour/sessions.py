@@ -1,5 +1,6 @@
 """Sends the statements of a page's table to the router, each in the client that the table names."""
 
+import contextlib
 import re
 import subprocess
 from dataclasses import dataclass
@@ -35,17 +36,17 @@ class Sessions:
 
     def __exit__(self, *_):
         for client in self.clients.values():
-            client.stdin.close()
-            client.wait()
+            client.communicate()
 
     def ask(self, session, statement):
         """The lines that answer a statement, without the statement and without where it stood."""
         if session not in self.clients:
             self.clients[session] = subprocess.Popen(["sh", "-c", CLIENT], stdin=subprocess.PIPE, stdout=subprocess.PIPE, text=True)
-        client = self.clients[session]
-        client.stdin.write(f"{statement};\nsystem echo {END}\n")
-        client.stdin.flush()
-        shown = ""
+        client, shown = self.clients[session], ""
+        # a client that couldn't connect has ended, and has said why
+        with contextlib.suppress(BrokenPipeError):
+            client.stdin.write(f"{statement};\nsystem echo {END}\n")
+            client.stdin.flush()
         for line in client.stdout:
             if line.strip() == END:
                 break
