@@ -3,7 +3,7 @@
 # and compares what is shown with tests/first_hour/shown and with the page. Says which commands it leaves out, because they take hours.
 # Usage: tests/first_hour.sh [--write] [PROGRAM]
 #   --write    writes tests/first_hour/shown anew from what is shown
-#   PROGRAM    is run in place of a program that look.sh compiles; a program that first-build would prove is the same one
+#   PROGRAM    is run in place of what look.sh compiles and first-build proves; without it the demo is left out, for which a program with checks is too slow
 # It runs where no other program has the ports, if the system lets it (unshare). Installs Debian's mariadb-client and iproute2 if they aren't there.
 set -euo pipefail
 top=$(cd "$(dirname "$0")/.." && pwd)
