@@ -175,12 +175,12 @@ collation_at ts = Some ts
 unfoldable pub names_at : Lexemes → Option Lexemes
 names_at ts = any_at ts >>= collation_at
 
--- READ UNCOMMITTED | READ COMMITTED | REPEATABLE READ | SERIALIZABLE: a transaction is at one moment, which is more than each
+-- READ UNCOMMITTED | READ COMMITTED | REPEATABLE READ: a transaction is on one shard and at one moment, which is more than each. SERIALIZABLE isn't
+-- among them, since a query of several shards outside a transaction is at a moment of each.
 unfoldable pub level_at : Lexemes → Option Lexemes
 level_at (bare (Some k.Read) w ∷ bare (Some k.Uncommitted) v ∷ rest) = Some rest
 level_at (bare (Some k.Read) w ∷ bare (Some k.Committed) v ∷ rest) = Some rest
 level_at (bare (Some k.Repeatable) w ∷ bare (Some k.Read) v ∷ rest) = Some rest
-level_at (bare (Some k.Serializable) w ∷ rest) = Some rest
 level_at _ = None
 
 -- ISOLATION LEVEL level | READ WRITE, after TRANSACTION
@@ -220,11 +220,11 @@ set_statement None = NotSupported
 
 -- ---- transactions
 
--- READ WRITE | READ ONLY | WITH CONSISTENT SNAPSHOT, and whether a transaction here is so
+-- READ WRITE | READ ONLY | WITH CONSISTENT SNAPSHOT, and whether a transaction here is so: it has no snapshot of all shards as it begins
 unfoldable pub mode_at : Lexemes → ReadOf Bool
 mode_at (bare (Some k.Read) w ∷ bare (Some k.Write) v ∷ rest) = Some (true, rest)
 mode_at (bare (Some k.Read) w ∷ bare (Some k.Only) v ∷ rest) = Some (false, rest)
-mode_at (bare (Some k.With) w ∷ bare (Some k.Consistent) v ∷ bare (Some k.Snapshot) u ∷ rest) = Some (true, rest)
+mode_at (bare (Some k.With) w ∷ bare (Some k.Consistent) v ∷ bare (Some k.Snapshot) u ∷ rest) = Some (false, rest)
 mode_at _ = None
 
 abbrev pub begin_statement : Bool → ClientStatement

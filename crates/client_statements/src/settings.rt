@@ -8,7 +8,7 @@ ghost use Rattle.client_statements.specs.Grammar.{collation_at, names_at, level_
 
 use crate::kinds::{
     CHARACTER, CHARSET, COLLATE, COMMITTED, CONCAT, DOT, ISOLATION, LEVEL, LOCAL, NAMES, OFF, ON,
-    ONLY, READ, REPEATABLE, SERIALIZABLE, SESSION, SET, TRANSACTION, UNCOMMITTED, WRITE,
+    ONLY, READ, REPEATABLE, SESSION, SET, TRANSACTION, UNCOMMITTED, WRITE,
 };
 use crate::names::{any, close, comma, equals, identifier, open, string};
 use crate::rule::{Rule, are_held_modes, rule_of};
@@ -321,7 +321,7 @@ fn names(tokens: &[Token]) -> Result<&[Token], Refusal>
     collation(rest)
 }
 
-/// A level of isolation.
+/// A level of isolation that is kept.
 #[tactic(auto, unfolding(crate::specs::Grammar::level_at))]
 fn level(tokens: &[Token]) -> Result<&[Token], Refusal>
     ensures { (text : List ℕ) → AgreesWith (λ x. lexemes_of text x.now) result (level_at (lexemes_of text tokens.now)) }
@@ -341,13 +341,6 @@ fn level(tokens: &[Token]) -> Result<&[Token], Refusal>
                 ..
             },
             Token { kind: READ, .. },
-            rest @ ..,
-        ] => Ok(rest),
-        [
-            Token {
-                kind: SERIALIZABLE,
-                ..
-            },
             rest @ ..,
         ] => Ok(rest),
         _ => Err(Refusal::SyntaxError),

@@ -40,7 +40,7 @@ fn mode(tokens: &[Token]) -> Result<(bool, &[Token]), Refusal>
             },
             Token { kind: SNAPSHOT, .. },
             rest @ ..,
-        ] => Ok((true, rest)),
+        ] => Ok((false, rest)),
         _ => Err(Refusal::SyntaxError),
     }
 }
