@@ -199,6 +199,100 @@ def it_ends_beside_an_admin_client(program):
             connection.close()
 
 
+class Admin:
+    """A connection to the admin port that stays open, until the `with` ends."""
+
+    def __init__(self, router):
+        self.socket = socket.create_connection(("127.0.0.1", router.admin_port), 10)
+
+    def __enter__(self):
+        return self
+
+    def __exit__(self, *_):
+        self.socket.close()
+
+    def ask(self, *lines):
+        self.socket.sendall("".join(line + "\n" for line in lines).encode())
+        answers = b""
+        while answers.count(b"\n") < len(lines):
+            piece = self.socket.recv(4096)
+            if not piece:
+                raise Closed("the admin port")
+            answers += piece
+        return answers.decode().splitlines()
+
+    def stop_reading(self):
+        """Sends lines until no more are taken, since the router waits for their answers to be read."""
+        self.socket.settimeout(1)
+        try:
+            while True:
+                self.socket.sendall(b"status\n" * 8192)
+        except TimeoutError:
+            pass
+
+
+def freeze(router, admin):
+    """Freezes a shard by one client of the admin port, and begins a write there: its thread, which ends once the write is answered."""
+    check("the shard is frozen", admin.ask("create -40 -20,20-40", "advance"), ["ok", "ok freeze"])
+    client, _ = log_in(router)
+
+    def write():
+        try:
+            # the first bits of its keyspace id are the last of this number
+            client.query(b"INSERT INTO t (id) VALUES (4)")
+        except Closed:
+            # the router has ended, since the case has failed
+            pass
+
+    writer = threading.Thread(target=write, daemon=True)
+    writer.start()
+    time.sleep(0.5)
+    check("a write waits", writer.is_alive())
+    return writer
+
+
+def resumes(name, router, writer):
+    """Has another client of the admin port end the cutover, and looks how long that takes."""
+    start = time.monotonic()
+    answers = router.admin("resume", "status")
+    seconds = time.monotonic() - start
+    check(f"{name}: another client ends the cutover", answers, ["ok", "serving -40 40-80 80-c0 c0- following"])
+    check(f"{name}: within some seconds, {seconds:.1f}", seconds < 5)
+    writer.join(5)
+    check(f"{name}: the write is answered", writer.is_alive(), False)
+
+
+@case
+def a_stopped_admin_client_gives_way_in_a_cutover(program):
+    with Router(program) as router, Admin(router) as admin:
+        writer = freeze(router, admin)
+        admin.stop_reading()
+        resumes("an admin client takes no answers", router, writer)
+
+
+@case
+def a_silent_admin_client_gives_way_in_a_cutover(program):
+    with Router(program) as router, Admin(router) as admin:
+        writer = freeze(router, admin)
+        resumes("an admin client says nothing", router, writer)
+        check("the silent one was closed", admin.socket.recv(4096), b"")
+
+
+@case
+def a_silent_admin_client_stays_while_it_is_alone(program):
+    with Router(program) as router, Admin(router) as admin:
+        writer = freeze(router, admin)
+        time.sleep(4)
+        check("it goes on", admin.ask("cancel", "status"), ["ok", "serving -40 40-80 80-c0 c0- none"])
+        writer.join(5)
+        check("the write is answered", writer.is_alive(), False)
+        with Admin(router) as other:
+            time.sleep(4)
+            check("nor does it leave while no statement waits", admin.ask("status"), ["serving -40 40-80 80-c0 c0- none"])
+            admin.socket.close()
+            check("the other one is next", other.ask("status"), ["serving -40 40-80 80-c0 c0- none"])
+
+
 @case
 def each_connection_counts(program):
     with Router(program, connections=3) as router:

@@ -9,13 +9,14 @@ use crate::progress::ServeProgress;
 use crate::server::Server;
 use crate::waits::is_made_again;
 use admin::{Administrator, Gate};
+use buffer::Buffer;
 use journal::Naming;
 use log::Log;
 use session::{DeviceFailed, Sink, Source};
 use shard::{ShardPass, World};
 use std::io::{Read, Write};
 use std::net::{TcpListener, TcpStream};
-use std::sync::Wait;
+use std::sync::{Mutex, Wait};
 use std::thread;
 use std::time::{Clock, Duration};
 
@@ -31,28 +32,82 @@ const SILENT_READS: u32 = 6000;
 /// How many such writes of an answer may move nothing: a minute.
 const STUCK_WRITES: u32 = 600;
 
+/// After how many reads or writes in turn that moved nothing a client gives way to the next one, if statements wait for a cutover: two seconds.
+/// They may wait until another client ends the cutover, which can't be served before this one has left.
+const HELD_TRIES: u32 = 20;
+
 /// The word of the line that takes all steps of a cutover.
 const SWITCH: &[u8] = b"switch";
 
+/// What the clients of the admin port are served over, and who comes next.
+#[derive(Drop)]
+struct Port<'s, R> {
+    rt: &'s R,
+    buffer: &'s Buffer,
+    progress: &'s ServeProgress,
+    listener: &'s TcpListener,
+    /// A client that was accepted while another one was served.
+    next: Mutex<Option<TcpStream>>,
+}
+
+impl<R: Wait> Port<'_, R> {
+    // How many tries in turn have moved nothing while statements waited, with one more.
+    fn held_after(&self, held: u32) -> u32 {
+        if self.buffer.waiting(self.rt) > 0 {
+            held.saturating_add(1)
+        } else {
+            0
+        }
+    }
+
+    // Whether another client is there. It is accepted, and is served next.
+    fn has_next(&self) -> bool {
+        match self.listener.accept() {
+            Ok((stream, _)) => {
+                *self.next.lock(self.rt) = Some(stream);
+                true
+            }
+            Err(_) => false,
+        }
+    }
+
+    // Whether a client has to leave after so many tries: all is served, or statements have waited too long and another client is there.
+    fn ends(&self, held: u32) -> bool {
+        !self.progress.is_under_way() || (held >= HELD_TRIES && self.has_next())
+    }
+
+    // The next client, if one is there.
+    fn next(&self) -> Option<TcpStream> {
+        let waiting = self.next.lock(self.rt).take();
+        if let Some(stream) = waiting {
+            return Some(stream);
+        }
+        match self.listener.accept() {
+            Ok((stream, _)) => Some(stream),
+            Err(_) => None,
+        }
+    }
+}
+
 /// Reads from a client of the admin port, until all is served.
 #[derive(Drop)]
-struct Lines<'s, R: Clock> {
-    rt: &'s R,
+struct Lines<'s, R> {
+    port: &'s Port<'s, R>,
     stream: &'s TcpStream,
-    progress: &'s ServeProgress,
     failures: u64,
 }
 
-// Reads, unless all is served or the client says nothing for too long.
-fn read_until(
+// Reads, unless all is served, the client says nothing for too long, or it gives way.
+fn read_until<R: Wait>(
+    port: &Port<'_, R>,
     mut stream: &TcpStream,
-    progress: &ServeProgress,
     buffer: &mut [u8],
 ) -> Result<usize, DeviceFailed>
     ensures { ReadsAtMost result buffer.new }
 {
+    let mut held = 0;
     for _ in 0..SILENT_READS {
-        if !progress.is_under_way() {
+        if port.ends(held) {
             return Err(DeviceFailed);
         }
         match stream.read(buffer) {
@@ -63,21 +118,23 @@ fn read_until(
                 }
             }
         }
+        held = port.held_after(held);
     }
     Err(DeviceFailed)
 }
 
-impl<R: Clock> Source for Lines<'_, R> {
+impl<R: Wait + Clock> Source for Lines<'_, R> {
     ghost unread = { λ _. None };
 
     ghost failures = { λ s. s.failures };
 
     fn read(&mut self, buffer: &mut [u8]) -> Result<usize, DeviceFailed> {
-        self.progress.end_switch();
-        match read_until(self.stream, self.progress, buffer) {
+        let progress = self.port.progress;
+        progress.end_switch();
+        match read_until(self.port, self.stream, buffer) {
             Ok(n) => {
                 if buffer[..n].starts_with(SWITCH) {
-                    self.progress.begin_switch(self.rt);
+                    progress.begin_switch(self.port.rt);
                 }
                 Ok(n)
             }
@@ -91,37 +148,42 @@ impl<R: Clock> Source for Lines<'_, R> {
 
 /// Writes to a client of the admin port, until all is served.
 #[derive(Drop)]
-struct Answers<'s> {
+struct Answers<'s, R> {
+    port: &'s Port<'s, R>,
     stream: &'s TcpStream,
-    progress: &'s ServeProgress,
     failures: u64,
 }
 
-// Writes some of the bytes, unless all is served or the client takes nothing for too long, and returns how many.
-fn write_some(
+// Writes some of the bytes, unless all is served, the client takes nothing for too long, or it gives way, and returns how many.
+fn write_some<R: Wait>(
+    port: &Port<'_, R>,
     mut stream: &TcpStream,
-    progress: &ServeProgress,
     bytes: &[u8],
 ) -> Result<usize, DeviceFailed>
     ensures { IfOk result (λ n. n ≤ length bytes.now) }
 {
+    let mut held = 0;
     for _ in 0..STUCK_WRITES {
         match stream.write(bytes) {
             Ok(0) => return Err(DeviceFailed),
             Ok(n) => return Ok(n),
             Err(error) => {
-                if !is_made_again(error.kind()) || !progress.is_under_way() {
+                if !is_made_again(error.kind()) {
                     return Err(DeviceFailed);
                 }
             }
+        }
+        held = port.held_after(held);
+        if port.ends(held) {
+            return Err(DeviceFailed);
         }
     }
     Err(DeviceFailed)
 }
 
-fn write_until(
+fn write_until<R: Wait>(
+    port: &Port<'_, R>,
     stream: &TcpStream,
-    progress: &ServeProgress,
     bytes: &[u8],
 ) -> Result<(), DeviceFailed> {
     let mut rest = bytes;
@@ -129,20 +191,20 @@ fn write_until(
         if rest.is_empty() {
             return Ok(());
         }
-        let n = write_some(stream, progress, rest)?;
+        let n = write_some(port, stream, rest)?;
         rest = &rest[n..];
     }
     Err(DeviceFailed)
 }
 
-impl Sink for Answers<'_> {
+impl<R: Wait> Sink for Answers<'_, R> {
     ghost taken = { λ _. None };
 
     ghost failures = { λ s. s.failures };
 
     fn write(&mut self, bytes: &[u8]) -> Result<(), DeviceFailed> {
-        self.progress.end_switch();
-        match write_until(self.stream, self.progress, bytes) {
+        self.port.progress.end_switch();
+        match write_until(self.port, self.stream, bytes) {
             Ok(()) => Ok(()),
             Err(_) => {
                 self.failures = self.failures.wrapping_add(1);
@@ -157,6 +219,7 @@ fn serve_one<W: World + Send + Sync, J: Naming + Send + Sync, G: Gate, R: Wait +
     server: &Server<'_, W, J, G, R>,
     administrator: &mut Administrator<W, J>,
     pass: &mut ShardPass<W, J>,
+    port: &Port<'_, R>,
     stream: &TcpStream,
 )
     requires home { keyspace_of administrator.old ≡ sharded_keyspace server.now.engine.now }
@@ -167,14 +230,13 @@ fn serve_one<W: World + Send + Sync, J: Naming + Send + Sync, G: Gate, R: Wait +
     let _ = stream.set_read_timeout(Some(patience));
     let _ = stream.set_write_timeout(Some(patience));
     let mut source = Lines {
-        rt: server.rt,
+        port,
         stream,
-        progress: server.progress,
         failures: 0,
     };
     let mut sink = Answers {
+        port,
         stream,
-        progress: server.progress,
         failures: 0,
     };
     let _ = talk(
@@ -191,22 +253,35 @@ fn serve_one<W: World + Send + Sync, J: Naming + Send + Sync, G: Gate, R: Wait +
 
 /// Serves the clients of the admin port, one after the other, until all connections are served. The administrator is that of the engine's
 /// sharded keyspace.
-pub fn serve_admin<W: World + Send + Sync, J: Naming + Send + Sync, G: Gate, R: Wait + Clock + Log>(
-    server: &Server<'_, W, J, G, R>,
+pub fn serve_admin<
+    'x,
+    W: World + Send + Sync,
+    J: Naming + Send + Sync,
+    G: Gate,
+    R: Wait + Clock + Log,
+>(
+    server: &Server<'x, W, J, G, R>,
     administrator: &mut Administrator<W, J>,
     pass: &mut ShardPass<W, J>,
-    listener: &TcpListener,
+    listener: &'x TcpListener,
 )
     requires home { keyspace_of administrator.old ≡ sharded_keyspace server.now.engine.now }
 {
     let _ = listener.set_nonblocking(true);
+    let port = Port {
+        rt: server.rt,
+        buffer: server.engine.buffer(),
+        progress: server.progress,
+        listener,
+        next: Mutex::new(None),
+    };
     for _ in server.rt.forever() {
         if !server.progress.is_under_way() {
             return;
         }
-        match listener.accept() {
-            Ok((stream, _)) => serve_one(server, administrator, pass, &stream),
-            Err(_) => {
+        match port.next() {
+            Some(stream) => serve_one(server, administrator, pass, &port, &stream),
+            None => {
                 let _ = thread::sleep(server.rt, Duration::from_millis(BETWEEN_LOOKS));
             }
         }
