@@ -1,7 +1,7 @@
 #!/usr/bin/env bash
 # Does to a served router what a hostile client, web page or caller can do, and shows that others are served meanwhile: logins that trickle, lines to
-# the admin port that a browser sends, an end while an admin client goes on, words that are no text, too few threads; and groups, VSchemas and
-# items that were chosen to be dear. Takes some five minutes.
+# the admin port that a browser sends, an end while an admin client goes on, admin clients that stop in a cutover, words that are no text, too few
+# threads; and groups, VSchemas and items that were chosen to be dear. Takes some five minutes.
 # Usage: tests/hostile.sh [PROGRAM]   (proved and built if none is given)
 set -euo pipefail
 top=$(cd "$(dirname "$0")/.." && pwd)
