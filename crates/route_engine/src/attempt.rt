@@ -1,43 +1,12 @@
 //! A statement's attempt at its shards, after which it may have to wait.
-ghost use Rattle.std.specs.Prelude.{◌≡◌, IfErr};
+ghost use Rattle.std.specs.Prelude.{◌≡◌, None, Some, IfOk};
 ghost use Rattle.serving.specs.Partitions.{AreOf};
 
-use buffer::Buffer;
+use buffer::{Full, Passed, Turn};
 use journal::Naming;
 use serving::{Partition, Serving};
 use shard_calls::{Shard, World};
 use std::sync::Wait;
-use vt_value::Refusal;
-
-/// A statement's turn at the buffer: a release after it lets the statement go on.
-#[derive(Drop)]
-pub struct Turn<'e> {
-    buffer: &'e Buffer,
-    number: u64,
-}
-
-impl<'e> Turn<'e> {
-    /// Takes the turn of a statement that begins now, or begins again.
-    pub fn take(rt: &impl Wait, buffer: &'e Buffer) -> Turn<'e> {
-        Turn {
-            buffer,
-            number: buffer.turn(rt),
-        }
-    }
-
-    /// Reads the partition that is present now that the turn is taken.
-    pub fn attempt<W: World, J: Naming>(
-        self,
-        serving: &'e Serving<Shard<W, J>>,
-    ) -> Attempt<'e, W, J>
-        ensures { AreOf serving.now result.partition.now }
-    {
-        Attempt {
-            partition: serving.current(),
-            turn: self,
-        }
-    }
-}
 
 /// A partition that was read after a turn was taken. A statement that waits gives up the attempt by which it has tried, so that it sleeps
 /// through no release that was made since it read the partition.
@@ -45,9 +14,39 @@ impl<'e> Turn<'e> {
 pub struct Attempt<'e, W: World, J: Naming> {
     partition: &'e Partition<Shard<W, J>>,
     turn: Turn<'e>,
+    // That a release came after the turn of the attempt before this one.
+    after: Option<Passed>,
 }
 
 impl<'e, W: World, J: Naming> Attempt<'e, W, J> {
+    /// Reads the partition that is present now that the turn is taken, for a statement that hasn't waited.
+    pub fn first(turn: Turn<'e>, serving: &'e Serving<Shard<W, J>>) -> Attempt<'e, W, J>
+        ensures partition { AreOf serving.now result.partition.now }
+        ensures after { result.after ≡ None }
+    {
+        Attempt {
+            partition: serving.current(),
+            turn,
+            after: None,
+        }
+    }
+
+    /// Reads the partition that is present now that the turn is taken, for a statement that has waited.
+    pub fn again(
+        turn: Turn<'e>,
+        serving: &'e Serving<Shard<W, J>>,
+        after: Passed,
+    ) -> Attempt<'e, W, J>
+        ensures partition { AreOf serving.now result.partition.now }
+        ensures after { result.after ≡ Some after }
+    {
+        Attempt {
+            partition: serving.current(),
+            turn,
+            after: Some(after),
+        }
+    }
+
     /// The partition to try.
     pub fn partition(&self) -> &'e Partition<Shard<W, J>>
         ensures { result.now ≡ self.now.partition.now }
@@ -55,10 +54,10 @@ impl<'e, W: World, J: Naming> Attempt<'e, W, J> {
         self.partition
     }
 
-    /// Waits for a release after the turn, if none was made yet. Refuses if the buffer is full.
-    pub fn wait(self, rt: &impl Wait) -> Result<(), Refusal>
-        ensures full { IfErr result (λ e. e ≡ Refusal.BufferFull) }
+    /// Waits for a release after the turn, if none was made yet, unless the buffer is full.
+    pub fn wait(self, rt: &impl Wait) -> Result<Passed, Full>
+        ensures { IfOk result (λ passed. passed ≡ self.entry.turn) }
     {
-        self.turn.buffer.wait(rt, self.turn.number)
+        self.turn.wait(rt)
     }
 }

@@ -108,9 +108,9 @@ impl<W: World + Send + Sync, J: Naming + Send + Sync, G: Gate> Engine<W, J, G> {
             }
             match self.next_attempt(rt, attempt, routed.table.keyspace) {
                 Ok(next) => attempt = Some(next),
-                Err(refusal) => {
+                Err(full) => {
                     drop(write);
-                    return Err(refusal);
+                    return Err(full.into());
                 }
             }
         }

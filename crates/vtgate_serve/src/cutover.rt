@@ -114,11 +114,11 @@ fn are_same<W: World, J: Naming>(
     parts.len() == others.len()
 }
 
-/// How it was before a cutover: the parts of the partition that served, and the buffer's turn.
+/// How it was before a cutover: the parts of the partition that served, and how many releases there were.
 #[derive(Drop)]
 struct Before<'b, W: World, J: Naming> {
     parts: &'b [ShardReference<Shard<W, J>>],
-    turn: u64,
+    releases: u64,
 }
 
 // One look.
@@ -134,7 +134,11 @@ fn look<W: World, J: Naming, R: Wait>(
     times.note_modes(modes_of(rt, before.parts), now);
     let is_published = !are_same(serving.current().parts(), before.parts);
     note(&mut times.published, is_published, now);
-    note(&mut times.released, buffer.turn(rt) > before.turn, now);
+    note(
+        &mut times.released,
+        buffer.releases(rt) > before.releases,
+        now,
+    );
 }
 
 // Looks until no cutover is under way.
@@ -146,7 +150,7 @@ fn times_of<W: World, J: Naming, R: Wait + Clock>(
 ) -> Times {
     let before = Before {
         parts: serving.current().parts(),
-        turn: buffer.turn(rt),
+        releases: buffer.releases(rt),
     };
     let start = Instant::now(rt).ok();
     let mut times = Times::new();

@@ -1,5 +1,5 @@
 //! The answer of a case.
-use crate::threads::{partitions, queues, runs, snapshots, workers};
+use crate::threads::{partitions, queues, runs, snapshots, waiting, workers};
 use std::alloc::Global;
 use std::sync::Wait;
 use std::thread::Threads;
@@ -34,6 +34,9 @@ pub fn answer<R: Threads + Wait + Sync>(
         }
         "snapshot_keeps_its_entries" => {
             told.put_went(snapshots::snapshot_keeps_its_entries(rt, alloc))
+        }
+        "released_statements_may_wait_again" => {
+            told.put_went(Ok(waiting::released_statements_may_wait_again(rt)))
         }
         "calls_answer" => told.put_went(runs::calls_answer(alloc)),
         _ => Err(Unanswered::BadLine),

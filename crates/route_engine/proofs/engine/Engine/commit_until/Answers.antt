@@ -1,4 +1,5 @@
-use Rattle.std.proofs.Common.{[], ap, sym, subst, ◌∙◌, refl}
+use Rattle.std.proofs.Common.{◌≡◌, [], ap, sym, subst, ◌∙◌, refl}
+use Rattle.vt_value.specs.declared.refusal.Refusal.TheVariants.{BufferFull}
 use Rattle.vschema.specs.declared.changes.Write.{Write}
 use Rattle.shard_contents.specs.Writes.{written_table}
 use Rattle.shard_calls.specs.Routes.{table_at, write_route}
@@ -37,7 +38,8 @@ pub returns-in-Err-next_attempt-clause-err : goal.returns-in-Err-next_attempt-cl
 returns-in-Err-next_attempt-clause-err g c =
     let done = rw c.loop.invariant.same at c.in-Ok-Again.ensures.ok in
     let back = w.came_back g.W.World.opening g.W.World.limits c.args.write c.in-Ok-Again.again c.loop.pass c.commit.new.pass c.in-Ok-Again.field-0 c.in-Ok-Again.field-0-is done in
-    rw c.in-Err-next_attempt.ensures.full
+    let is : c.into.result ≡ BufferFull = c.into.ensures in
+    rw is
     (w.refused_after g.W.World.opening g.W.World.limits c.args.write c.args.pass.now c.loop.pass c.commit.new.pass c.loop.invariant.gone _
     (a.buffer_full back.gone back.held))
 
