@@ -16,23 +16,24 @@ use Rattle.shard_contents.specs.declared.outcomes.ReadOutcome.TheVariants.{Rows}
 use Rattle.shard_contents.specs.Shards.{AnswersQuery, read}
 use Rattle.shard_contents.specs.Transactions.{PendingView, HasReadIn, touched_all}
 use Rattle.shard_contents.proofs.Bags.{same_through, all_applied-same}
-use Rattle.shard.specs.declared.snapshot.Snapshot.{Snapshot}
+use Rattle.shard.specs.Snapshots.{SnapshotView}
+use Rattle.shard.specs.BegunReads.{HasBegunRead, answered, begun}
 use Rattle.shard.specs.declared.snapshot.BegunRead.TheVariants.{Answered, Begun}
 use Rattle.shard.specs.declared.snapshot.RowsIn.{RowsIn}
 use Rattle.shard.specs.declared.snapshot.RowsIn.TheVariants.{Selected, ToSelect}
 use Rattle.shard.specs.declared.snapshot.BegunReadIn.{BegunReadIn}
-use Rattle.shard.specs.inner.Snapshots.{HasBegun, answered, begun, HasRows, selected, to_select, HasBegunIn, IsGivenBy}
+use Rattle.shard.specs.inner.Snapshots.{HasRows, selected, to_select, HasBegunIn, IsGivenBy}
 
 module _ (o : Opening) (run : List Entry) (s : ShardRecord) (query : Query) where
-  pub answered_so : (outcome : ReadOutcome) → HasBegun o run s query (Answered outcome) → AnswersQuery o run s query outcome
+  pub answered_so : (outcome : ReadOutcome) → HasBegunRead o run s query (Answered outcome) → AnswersQuery o run s query outcome
   answered_so outcome (answered is) = is
 
-  pub selected_so : (taken : Snapshot) (r : Reading) → Allowed query taken.store.rows r.rows → r.entries ≡ taken.entries
-      → HasBegun o run s query (Begun taken) → AnswersQuery o run s query (Rows r)
+  pub selected_so : (taken : SnapshotView) (r : Reading) → Allowed query taken.rows r.rows → r.entries ≡ taken.entries
+      → HasBegunRead o run s query (Begun taken) → AnswersQuery o run s query (Rows r)
   selected_so taken r allowed count (begun is) = read (record {
     serves = is.serves;
     few = is.few;
-    allowed = same_allowed query taken.store.rows (shard_rows o run s) r.rows is.rows allowed;
+    allowed = same_allowed query taken.rows (shard_rows o run s) r.rows is.rows allowed;
     count = count ∙ is.count;
   })
 

@@ -1,28 +1,42 @@
 //! A read of many rows: the look and a snapshot under the shard's lock, and the rows that the query gives once the lock is given back.
 ghost use Rattle.std.specs.Prelude.{◌≡◌, List, IfOk, OnErr};
-ghost use Rattle.vschema.specs.Sources.{source_rows};
-ghost use Rattle.shard_contents.specs.Groups.{CanBeSummed};
 ghost use Rattle.shard_contents.specs.Queries.{Allowed};
 ghost use Rattle.shard_run.specs.declared.ShardRecord as which;
 ghost use Rattle.shard_run.specs.declared.Entry.{Entry};
 ghost use Rattle.shard_run.specs.Runs.{Opening};
 ghost use Rattle.shard_contents.specs.Shards.{AnswersQuery};
 ghost use Rattle.shard_contents.specs.Transactions.{HasReadIn};
-ghost use Rattle.shard.specs.inner.Snapshots.{HasBegun, HasBegunIn, HasRows, IsGivenBy, IsReadable, IsSummable, IsToRead};
+ghost use Rattle.shard.specs.BegunReads.{HasBegunRead};
+ghost use Rattle.shard.specs.inner.Snapshots.{HasBegunIn, HasRows, IsGivenBy, IsReadable, IsToRead};
 
 use shard_contents::{Pending, ReadOutcome, Reading, StoredTables, select_in_transaction};
 use std::alloc::{AllocError, Global};
+use std::marker::Model;
 use vschema::{Query, RowChange};
 use vt_value::{Items, Row};
 
 /// A read that looks at more rows of a table than so many has a snapshot of them, and the lock is given back before it looks.
 pub const MOST_ROWS_UNDER_LOCK: usize = 256;
 
-/// The rows of a shard that serves as they were at a look, and how many entries it had then.
+/// The rows of a shard that serves as they were at a look, and how many entries it had then. Contracts see a `SnapshotView`.
 #[derive(Drop)]
 pub struct Snapshot {
-    pub store: StoredTables,
-    pub entries: u64,
+    pub(crate) store: StoredTables,
+    pub(crate) entries: u64,
+}
+
+impl Model for Snapshot {
+    ghost use Rattle.vschema.specs.declared.schema.Query as asked;
+    ghost use Rattle.vschema.specs.Sources.{source_rows};
+    ghost use Rattle.shard_contents.specs.Groups.{CanBeSummed};
+    ghost use Rattle.shard.specs.Snapshots.{SnapshotView};
+
+    ghost Value = { SnapshotView };
+
+    ghost view = { λ s. record { rows = s.store.rows; entries = s.entries } };
+
+    // A shard has few rows, so counts and sums of what any query is over fit.
+    ghost invariant = { λ s. (q : asked.Query) → CanBeSummed (source_rows q s.store.rows) };
 }
 
 /// What a read has after its look: all that it answers, or the rows over which it has to answer yet.
@@ -35,8 +49,7 @@ pub enum BegunRead {
 impl Snapshot {
     // What the query gives over the rows.
     fn select(&self, alloc: Global, query: &Query) -> Result<Reading, AllocError>
-        requires summed { CanBeSummed (source_rows query.now self.now.store.rows) }
-        ensures rows { IfOk result (λ r. Allowed query.now self.now.store.rows r.rows) }
+        ensures rows { IfOk result (λ r. Allowed query.now self.now.rows r.rows) }
         ensures entries { IfOk result (λ r. r.entries ≡ self.now.entries) }
     {
         let rows = self.store.select(alloc, query)?;
@@ -48,10 +61,20 @@ impl Snapshot {
 }
 
 impl BegunRead {
-    /// What the shard answers to the query, as of its look. Refuses only for want of memory.
+    /// Whether it gave, or has yet to look at, at most so many rows of the table of this ordinal.
+    pub fn is_small(&self, table: usize, most: usize) -> bool {
+        match self {
+            BegunRead::Answered(ReadOutcome::Rows(reading)) => reading.rows.len() <= most,
+            BegunRead::Answered(ReadOutcome::NotServing) => true,
+            BegunRead::Begun(snapshot) => snapshot.store.row_count_of(table) <= most,
+        }
+    }
+
+    // Promise: A read may be finished at any time after its look, without the shard's lock: it gives what the shard answered then
+    /// What the shard answers to the query, as of its look. That is an answer whatever happened to the shard since, also if it was retired:
+    /// the rows that it had while it served are those of a prefix of the run. Refuses only for want of memory.
     pub fn finish(self, alloc: Global, query: &Query) -> Result<ReadOutcome, AllocError>
-        requires summed { IsSummable query.now self }
-        ensures read { IfOk result (λ r. (o : Opening) (run : List Entry) (s : which.ShardRecord) → HasBegun o run s query.now self → AnswersQuery o run s query.now r) }
+        ensures read { IfOk result (λ r. (o : Opening) (run : List Entry) (s : which.ShardRecord) → HasBegunRead o run s query.now self → AnswersQuery o run s query.now r) }
     {
         match self {
             BegunRead::Answered(outcome) => Ok(outcome),

@@ -2,9 +2,6 @@
 //! that the run leaves on the shard.
 ghost use Rattle.std.specs.Prelude.{◌≡◌, ◌↔◌, IsTrue, ◌⊎◌, ◌+◌, ◌<◌, ◌≤◌, ◌^◌, ◌++◌, ◌∷◌, [], ℕ, true, false, List, Some, IsSome, IfOk, IfErr, MatchOption, None, OnOk, OnErr, Contains, length, vec_len};
 ghost use Rattle.vschema.specs.TypedWrites.{IsTypedWrite};
-ghost use Rattle.vschema.specs.declared.schema.Query as asked;
-ghost use Rattle.vschema.specs.Sources.{source_rows};
-ghost use Rattle.shard_contents.specs.Groups.{CanBeSummed};
 ghost use Rattle.shard_contents.specs.Queries.{Allowed};
 ghost use Rattle.journal.specs.Views.{IsLater};
 ghost use Rattle.shard_run.specs.declared.Entry.{Entry};
@@ -16,7 +13,8 @@ ghost use Rattle.journal.specs.Runs.{IsLegal};
 ghost use Rattle.shard_contents.specs.Entries.{MayFollow, slot_of, commit_of};
 ghost use Rattle.shard_contents.specs.Shards.{beyond, IsAfter};
 ghost use Rattle.shard_contents.specs.inner.Shards.{is_plain};
-ghost use Rattle.shard.specs.inner.Snapshots.{IsSnapshotAt, HasBegun, IsSummable};
+ghost use Rattle.shard.specs.Snapshots.{IsSnapshotAt};
+ghost use Rattle.shard.specs.BegunReads.{HasBegunRead};
 
 use crate::snapshot::{BegunRead, MOST_ROWS_UNDER_LOCK, Snapshot};
 use crate::world::{ShardLaw, ShardPass, World};
@@ -307,7 +305,6 @@ impl<W: World, J: Naming> ShardState<W, J> {
         requires serves { answers_queries (mode W.opening self.old.seen self.old.shard.slot) ≡ true }
         ensures seen { IsLater slot_of commit_of (MayFollow W.opening) (seat_view self.old) pass.old self.new.seen }
         ensures snapshot { IfOk result (IsSnapshotAt W.opening self.new.seen self.old.shard) }
-        ensures summed { IfOk result (λ t. (q : asked.Query) → CanBeSummed (source_rows q t.store.rows)) }
         ensures shard { self.new.shard ≡ self.old.shard }
         ensures stands { IsOnItsSlot W.opening self.new.seen self.old.shard }
         ensures pass { pass.new ≡ record pass.old { seen = self.new.seen; looks = pass.old.looks ++ (self.old.shard.slot, length self.new.seen) ∷ [] } }
@@ -325,8 +322,7 @@ impl<W: World, J: Naming> ShardState<W, J> {
         query: &Query,
     ) -> Result<BegunRead, AllocError>
         ensures seen { IsLater slot_of commit_of (MayFollow W.opening) (seat_view self.old) pass.old self.new.seen }
-        ensures begun { IfOk result (HasBegun W.opening self.new.seen self.old.shard query.now) }
-        ensures summed { IfOk result (IsSummable query.now) }
+        ensures begun { IfOk result (HasBegunRead W.opening self.new.seen self.old.shard query.now) }
         ensures shard { self.new.shard ≡ self.old.shard }
         ensures stands { IsOnItsSlot W.opening self.new.seen self.old.shard }
         ensures pass { pass.new ≡ record pass.old { seen = self.new.seen; looks = pass.old.looks ++ (self.old.shard.slot, length self.new.seen) ∷ [] } }

@@ -1,5 +1,5 @@
--- What a read has after its look, before it answers.
-use Rattle.std.specs.Prelude.{◌≡◌, ◌≤◌, ◌^◌, IsTrue, true, List, length, ⊤}
+-- What a read in a transaction has after its look, before it answers.
+use Rattle.std.specs.Prelude.{◌≡◌, ◌≤◌, ◌^◌, true, List, length, ⊤}
 use Rattle.vt_value.specs.Values.{Row}
 use Rattle.vschema.specs.declared.schema.Query.{Query}
 use Rattle.vschema.specs.declared.changes.RowChange.{RowChange}
@@ -10,38 +10,12 @@ use Rattle.shard_contents.specs.Groups.{CanBeSummed}
 use Rattle.shard_contents.specs.Queries.{Allowed}
 use Rattle.shard_run.specs.declared.ShardRecord.{ShardRecord}
 use Rattle.shard_run.specs.declared.Entry.{Entry}
-use Rattle.shard_run.specs.Openings.{row_count}
-use Rattle.shard_run.specs.Runs.{Opening, shard_rows, mode, answers_queries, entries_on, stored_on}
-use Rattle.shard_contents.specs.declared.outcomes.ReadOutcome.{ReadOutcome}
-use Rattle.shard_contents.specs.Shards.{AnswersQuery}
+use Rattle.shard_run.specs.Runs.{Opening, shard_rows, entries_on, stored_on}
 use Rattle.shard_contents.specs.Transactions.{PendingView, IsClear}
 use Rattle.shard_contents.specs.Stores.{StoreView}
-use Rattle.shard.specs.declared.snapshot.Snapshot.{Snapshot}
-use Rattle.shard.specs.declared.snapshot.BegunRead.{BegunRead}
-use Rattle.shard.specs.declared.snapshot.BegunRead.TheVariants.{Answered, Begun}
 use Rattle.shard.specs.declared.snapshot.RowsIn.{RowsIn}
 use Rattle.shard.specs.declared.snapshot.RowsIn.TheVariants.{Selected, ToSelect}
 use Rattle.shard.specs.declared.snapshot.BegunReadIn.{BegunReadIn}
-
--- The snapshot was taken after the run: the shard serves, its rows are, in any order, those that the run leaves on it, and so many entries
--- are on it.
-pub record IsSnapshotAt (o : Opening) (run : List Entry) (s : ShardRecord) (snapshot : Snapshot) : Type 0 where
-  pub serves : IsTrue (answers_queries (mode o run s.slot))
-  pub few : row_count (shard_rows o run s) ≤ 2 ^ 20
-  pub rows : SameRows snapshot.store.rows (shard_rows o run s)
-  pub count : snapshot.entries ≡ length (entries_on s.slot run)
-
--- a read of the shard has looked at it after the run: it has its answer, or a snapshot of then
-pub data HasBegun (o : Opening) (run : List Entry) (s : ShardRecord) (query : Query) : BegunRead → Type 0 where
-  answered : {outcome : ReadOutcome} → AnswersQuery o run s query outcome → HasBegun o run s query (Answered outcome)
-  begun : {snapshot : Snapshot} → IsSnapshotAt o run s snapshot → HasBegun o run s query (Begun snapshot)
-
--- counts and sums of what the query is over fit
-abbrev pub IsSummable : Query → BegunRead → Type 0
-IsSummable query (Answered outcome) = ⊤
-IsSummable query (Begun snapshot) = CanBeSummed (source_rows query snapshot.store.rows)
-
--- ---- in a transaction
 
 -- the rows, or what will be read of them, are what the query gives with the changes over rows that are, in any order, these
 pub data HasRows (query : Query) (changes : List RowChange) (db : Database) : RowsIn → Type 0 where

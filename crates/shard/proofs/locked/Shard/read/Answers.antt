@@ -1,12 +1,12 @@
-use Rattle.std.proofs.Common.{sym, ap}
-use Rattle.std.specs.Sync.Mutex.{mutex_guard_value}
-use Rattle.journal.specs.Views.{PassView}
-use Rattle.shard_run.specs.declared.Entry.{Entry}
-use Rattle.shard.proofs.Found.{found_past}
 use Rattle.shard.proofs.locked.Shard.read.Goals as goal
 
-pub returns-clause-past : goal.returns-clause-past
-returns-clause-past g c =
-    found_past g.W.World.opening c.deref_mut.result.now (mutex_guard_value c.own_state-state.result) c.deref_mut.ensures.value
-    c.own_state-state.ensures.past c.args.self.now.0 c.own_state-state.ensures.at.0 c.begin_read-begun.new.self.seen c.begin_read-begun.new.pass.seen
-    c.begin_read-begun.ensures.seen.seat (sym (ap (λ (x : PassView Entry). x.seen) c.begin_read-begun.ensures.pass))
+pub returns-clause-read : goal.returns-clause-read
+returns-clause-read g c =
+    let is = c.in_ok-begun.ensures.begun in (
+      is.0,
+      is.1,
+      is.2,
+      is.3,
+      is.4,
+      c.in_ok-outcome.ensures.read g.W.World.opening c.begin_read.new.pass.seen is.0 is.5,
+    )

@@ -1,6 +1,6 @@
 use Rattle.std.proofs.Common.{subst}
 use Rattle.shard.specs.declared.snapshot.BegunRead.{BegunRead}
-use Rattle.shard.specs.inner.Snapshots.{HasBegun}
+use Rattle.shard.specs.BegunReads.{HasBegunRead}
 use Rattle.shard.proofs.BegunReads.{answered_so, selected_so}
 use Rattle.shard.proofs.snapshot.BegunRead.finish.Goals as goal
 
@@ -8,7 +8,7 @@ pub returns-in-Answered : goal.returns-in-Answered
 returns-in-Answered c =
     record {
       read = λ o run s has. (
-          answered_so o run s c.args.query.now c.in-Answered.outcome (subst (λ (b : BegunRead). HasBegun o run s c.args.query.now b) c.in-Answered.is has)
+          answered_so o run s c.args.query.now c.in-Answered.outcome (subst (λ (b : BegunRead). HasBegunRead o run s c.args.query.now b) c.in-Answered.is has)
           );
     }
 
@@ -17,6 +17,6 @@ returns-in_ok-reading-in-Begun c =
     record {
       read = λ o run s has. (
           selected_so o run s c.args.query.now c.in-Begun.snapshot c.in_ok-reading-in-Begun.reading c.in_ok-reading-in-Begun.ensures.rows
-          c.in_ok-reading-in-Begun.ensures.entries (subst (λ (b : BegunRead). HasBegun o run s c.args.query.now b) c.in-Begun.is has)
+          c.in_ok-reading-in-Begun.ensures.entries (subst (λ (b : BegunRead). HasBegunRead o run s c.args.query.now b) c.in-Begun.is has)
           );
     }

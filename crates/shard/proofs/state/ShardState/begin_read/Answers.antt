@@ -3,7 +3,7 @@ use Rattle.shard_run.specs.Runs.{mode, answers_queries}
 use Rattle.shard_contents.specs.Entries.{ShardView}
 use Rattle.shard_contents.specs.Shards.{read, not_serving}
 use Rattle.shard_contents.proofs.States.{serves_is}
-use Rattle.shard.specs.inner.Snapshots.{answered, begun}
+use Rattle.shard.specs.BegunReads.{answered, begun}
 use Rattle.shard.proofs.state.ShardState.begin_read.Goals as goal
 
 pub returns-clause-begun : goal.returns-clause-begun

@@ -39,8 +39,8 @@ returns-clause-snapshot g c =
       count = c.look-entries.ensures.count ∙ ap (λ (i : ℕ). length (entries_on i c.look-entries.new.self.seen)) c.self.invariant.0.slot;
     }
 
-pub returns-clause-summed : goal.returns-clause-summed
-returns-clause-summed g c q =
+pub invariant_of-result : goal.invariant_of-result
+invariant_of-result g c q =
     let l = looked _ _ c.self.inside.seat c.look-entries.new.self c.args.pass.now _ _ c.look-entries.ensures.seen c.look-entries.ensures.seat c.self.invariant in
     let s = served _ _ c.self.inside.seat c.look-entries.new.self c.args.pass.now _ _ c.look-entries.ensures.seen c.look-entries.ensures.seat c.self.invariant
     c.args.self.now c.self.view_is c.requires.serves in
