@@ -1,5 +1,6 @@
 pub mod Gathers
 pub mod Workers
+pub mod Looking
 pub mod Taken
 pub mod Sent
 pub mod Alone

@@ -30,9 +30,10 @@ use Rattle.vschema.specs.contracts.schema.Query as query
 use Rattle.vschema.proofs.schema.Place.TheSendSync as place
 use Rattle.std.proofs.alloc.AllocError.TheSendSync as refused
 use Rattle.shard.proofs.ReadoutcomeTheSendSync as reading
+use Rattle.shard.proofs.snapshot.BegunRead.TheSendSync as begun
 use Rattle.shard_calls.specs.contracts.pieces.Piece as piece
 use Rattle.shard_calls.specs.contracts.pieces.Piece.TheInside as piece_inside
-use Rattle.shard_calls.specs.contracts.scatter.ReadJob as job
+use Rattle.shard_calls.specs.contracts.looks.LookedJob as looked
 use Rattle.shard_calls.specs.contracts.scatter.ReadResult as done
 
 -- captures that may each go to another thread
@@ -76,10 +77,10 @@ module _ (W J : RattleType) (w : world.Ghosts W.Denot) (j : naming.Ghosts J.Deno
       (recorded_sync (locked_inside.the_field W J w j).row _ _ (locked_inside.the_type W J w j).to_one
       (struct_sync (shape (locked_inside.the_type W J w j)) (search sendable, (place.the_field_sync, (search (state_send, std.crosses, sendable) depth 60 fits 20000, tt)))))
 
-  pub job_send : (ℓ : _) → IsSend (job.the_row ℓ W J w j)
-  job_send ℓ =
-      recorded_send (job.the_field ℓ W J w j).row _ _ (job.the_type ℓ W J w j).to_one
-      (struct_send (shape (job.the_type ℓ W J w j)) (search sendable, (shr_send _ _ _ shard_shared, (piece_send ℓ, (search sendable, (pass_send, tt))))))
+  pub looked_send : (ℓ : _) → IsSend (looked.the_row ℓ W J w j)
+  looked_send ℓ =
+      recorded_send (looked.the_field ℓ W J w j).row _ _ (looked.the_type ℓ W J w j).to_one
+      (struct_send (shape (looked.the_type ℓ W J w j)) (search sendable, (search sendable, (piece_send ℓ, (search sendable, (pass_send, (search (begun.the_send, refused.the_send, std.crosses, sendable), tt)))))))
 
   pub done_send : IsSend (done.the_row W J w j)
   done_send =

@@ -2,6 +2,7 @@
 #![tactic(auto)]
 
 mod gate;
+mod looks;
 mod parts;
 mod pieces;
 mod reply;

@@ -9,9 +9,10 @@ ghost use Rattle.shard.specs.Entries.{MayFollow, HasLooked};
 ghost use Rattle.shard.specs.Seats.{place_at};
 ghost use Rattle.planner.specs.declared.plans.Plan.{Plan as WrittenPlan};
 ghost use Rattle.shard_calls.specs.Answers.{HasGone, IsHeldUp};
-ghost use Rattle.shard_calls.specs.inner.Scatter.{asked, all_asked, IsReadingOf, outcome_rows, entries_in, IsGathered, AreConsecutive, IsStalled, IsScattered, IsPieceAlone};
+ghost use Rattle.shard_calls.specs.inner.Scatter.{asked, all_asked, IsReadingOf, outcome_rows, entries_in, IsGathered, AreConsecutive, IsStalled, IsScattered, IsPieceAlone, IsFinishOf};
 
 use crate::gate::Gate;
+use crate::looks::{LookedJob, finish, look_at_all};
 use crate::parts::shard_of;
 use crate::pieces::{Piece, piece_for};
 use crate::reply::ShardRead;
@@ -154,53 +155,28 @@ pub fn jobs<'e, W: World, J: Naming>(
     Ok(jobs)
 }
 
-/// A shard's answer, read by this thread.
-fn read_one<W: World, J: Naming, G: Gate>(
-    rt: &impl Wait,
-    alloc: Global,
-    gate: &G,
-    job: ReadJob<W, J>,
-) -> ReadResult<W, J>
-    ensures { IsReadingOf W.opening (record { slot = job.entry.shard.now.0; place = place_at job.entry.shard.now; query = job.entry.query; pass = job.entry.pass }) (record { slot = result.slot; pass = result.pass; outcome = result.outcome }) }
-{
-    let ReadJob {
-        turn,
-        shard,
-        query,
-        mut pass,
-        ..
-    } = job;
-    let slot = shard.slot();
-    gate.before(turn);
-    let outcome = shard.read(rt, alloc, &mut pass, query.get());
-    gate.after(turn);
-    drop(query);
-    ReadResult {
-        slot,
-        pass,
-        outcome,
-    }
-}
-
-// Whether a job reads at most so many rows of each table, as far as one can tell without waiting.
-fn is_small<W: World, J: Naming>(job: &ReadJob<W, J>, most: usize) -> bool {
-    if job.most <= most {
+// Whether a look left few rows to read: at most so many of each table.
+fn is_small<W: World, J: Naming>(looked: &LookedJob<W, J>, most: usize) -> bool {
+    if looked.most <= most {
         return true;
     }
-    let query = job.query.get();
-    if !job.shard.is_small(query.table, most) {
+    let Ok(begun) = &looked.begun else {
+        return true;
+    };
+    let query = looked.query.get();
+    if !begun.is_small(query.table, most) {
         return false;
     }
     match query.join {
-        Some(join) => job.shard.is_small(join.table, most),
+        Some(join) => begun.is_small(join.table, most),
         None => true,
     }
 }
 
-// Whether each of these jobs reads at most so many rows of each table.
-fn are_small<W: World, J: Naming>(jobs: &[ReadJob<W, J>], most: usize) -> bool {
-    for job in jobs {
-        if !is_small(job, most) {
+// Whether each of these looks left few rows to read.
+fn are_small<W: World, J: Naming>(looked: &[LookedJob<W, J>], most: usize) -> bool {
+    for one in looked {
+        if !is_small(one, most) {
             return false;
         }
     }
@@ -209,16 +185,15 @@ fn are_small<W: World, J: Naming>(jobs: &[ReadJob<W, J>], most: usize) -> bool {
 
 // Each shard's answer, read by this thread, one after the other.
 fn read_in_turn<W: World, J: Naming, G: Gate>(
-    rt: &impl Wait,
     alloc: Global,
     gate: &G,
-    jobs: Vec<ReadJob<W, J>>,
+    looked: Vec<LookedJob<W, J>>,
 ) -> Result<Vec<ReadResult<W, J>>, AllocError>
-    ensures ok { IfOk result (λ done. AllZip (λ job d. IsReadingOf W.opening (record { slot = job.shard.now.0; place = place_at job.shard.now; query = job.query; pass = job.pass }) (record { slot = d.slot; pass = d.pass; outcome = d.outcome })) jobs.entry.items done.items) }
+    ensures ok { IfOk result (λ done. AllZip (λ l d. IsFinishOf W.opening (record { slot = l.slot; query = l.query; pass = l.pass; begun = l.begun }) (record { slot = d.slot; pass = d.pass; outcome = d.outcome })) looked.entry.items done.items) }
 {
-    let mut done = Vec::with_capacity(alloc, jobs.len())?;
-    for job in jobs {
-        done.push(read_one(rt, alloc, gate, job))?;
+    let mut done = Vec::with_capacity(alloc, looked.len())?;
+    for job in looked {
+        done.push(finish(alloc, gate, job))?;
     }
     Ok(done)
 }
@@ -228,16 +203,16 @@ fn read_at_once<R: Threads + Wait + Sync, W: World + Send + Sync, J: Naming + Se
     rt: &R,
     alloc: Global,
     gate: &G,
-    jobs: Vec<ReadJob<W, J>>,
+    looked: Vec<LookedJob<W, J>>,
 ) -> Result<Vec<ReadResult<W, J>>, AllocError>
-    ensures ok { IfOk result (λ done. AllZip (λ job d. IsReadingOf W.opening (record { slot = job.shard.now.0; place = place_at job.shard.now; query = job.query; pass = job.pass }) (record { slot = d.slot; pass = d.pass; outcome = d.outcome })) jobs.entry.items done.items) }
+    ensures ok { IfOk result (λ done. AllZip (λ l d. IsFinishOf W.opening (record { slot = l.slot; query = l.query; pass = l.pass; begun = l.begun }) (record { slot = d.slot; pass = d.pass; outcome = d.outcome })) looked.entry.items done.items) }
 {
     let done = thread::map_vec(
         rt,
-        jobs,
-        &|job: ReadJob<W, J>| -> ReadResult<W, J>
-            ensures { IsReadingOf W.opening (record { slot = job.entry.shard.now.0; place = place_at job.entry.shard.now; query = job.entry.query; pass = job.entry.pass }) (record { slot = result.slot; pass = result.pass; outcome = result.outcome }) }
-        { read_one(rt, alloc, gate, job) },
+        looked,
+        &|job: LookedJob<W, J>| -> ReadResult<W, J>
+            ensures { IsFinishOf W.opening (record { slot = job.entry.slot; query = job.entry.query; pass = job.entry.pass; begun = job.entry.begun }) (record { slot = result.slot; pass = result.pass; outcome = result.outcome }) }
+        { finish(alloc, gate, job) },
     )?;
     Ok(done)
 }
@@ -252,14 +227,14 @@ fn read_some_at_once<
     rt: &R,
     alloc: Global,
     gate: &G,
-    jobs: Vec<ReadJob<W, J>>,
+    looked: Vec<LookedJob<W, J>>,
     most: usize,
 ) -> Result<Vec<ReadResult<W, J>>, AllocError>
-    ensures ok { IfOk result (λ done. AllZip (λ job d. IsReadingOf W.opening (record { slot = job.shard.now.0; place = place_at job.shard.now; query = job.query; pass = job.pass }) (record { slot = d.slot; pass = d.pass; outcome = d.outcome })) jobs.entry.items done.items) }
+    ensures ok { IfOk result (λ done. AllZip (λ l d. IsFinishOf W.opening (record { slot = l.slot; query = l.query; pass = l.pass; begun = l.begun }) (record { slot = d.slot; pass = d.pass; outcome = d.outcome })) looked.entry.items done.items) }
 {
-    let mut done = Vec::with_capacity(alloc, jobs.len())?;
+    let mut done = Vec::with_capacity(alloc, looked.len())?;
     let mut next = Vec::new(alloc);
-    for job in jobs {
+    for job in looked {
         next.push(job)?;
         if next.len() >= most {
             done.append(&mut read_at_once(rt, alloc, gate, next)?)?;
@@ -278,8 +253,30 @@ fn processors(rt: &impl Threads) -> usize {
     }
 }
 
-/// Each shard's answer: of one shard, or of few rows each, read by this thread; else as many at once as the gate says, each in a thread of
-/// its own where one can be started. Refuses only for want of memory.
+// Each shard's answer: of one shard, or of few rows each, read by this thread; else as many at once as the gate says, each in a thread of
+// its own where one can be started. Refuses only for want of memory.
+fn read_looked<R: Threads + Wait + Sync, W: World + Send + Sync, J: Naming + Send + Sync, G: Gate>(
+    rt: &R,
+    alloc: Global,
+    gate: &G,
+    looked: Vec<LookedJob<W, J>>,
+) -> Result<Vec<ReadResult<W, J>>, AllocError>
+    ensures ok { IfOk result (λ done. AllZip (λ l d. IsFinishOf W.opening (record { slot = l.slot; query = l.query; pass = l.pass; begun = l.begun }) (record { slot = d.slot; pass = d.pass; outcome = d.outcome })) looked.entry.items done.items) }
+{
+    if looked.len() < 2 || are_small(looked.as_slice(), gate.few_rows()) {
+        return read_in_turn(alloc, gate, looked);
+    }
+    let most = gate.most_at_once(processors(rt));
+    if most < 2 {
+        return read_in_turn(alloc, gate, looked);
+    }
+    read_some_at_once(rt, alloc, gate, looked, most)
+}
+
+/// Each shard's answer: all shards are looked at first, and then the rows of each are read. Refuses only for want of memory.
+// Only the looks can meet a cutover, and they take microseconds. Once each shard served at its look, the answer is settled: what is read
+// are the rows that the shard had at that look, which are those of a prefix of the run. They stay an answer if the shard is retired, or gives
+// its rows up, while they are read. So a long read needn't start again because its shards move.
 pub fn read_all<R: Threads + Wait + Sync, W: World + Send + Sync, J: Naming + Send + Sync, G: Gate>(
     rt: &R,
     alloc: Global,
@@ -288,14 +285,9 @@ pub fn read_all<R: Threads + Wait + Sync, W: World + Send + Sync, J: Naming + Se
 ) -> Result<Vec<ReadResult<W, J>>, AllocError>
     ensures ok { IfOk result (λ done. AllZip (λ job d. IsReadingOf W.opening (record { slot = job.shard.now.0; place = place_at job.shard.now; query = job.query; pass = job.pass }) (record { slot = d.slot; pass = d.pass; outcome = d.outcome })) jobs.entry.items done.items) }
 {
-    if jobs.len() < 2 || are_small(jobs.as_slice(), gate.few_rows()) {
-        return read_in_turn(rt, alloc, gate, jobs);
-    }
-    let most = gate.most_at_once(processors(rt));
-    if most < 2 {
-        return read_in_turn(rt, alloc, gate, jobs);
-    }
-    read_some_at_once(rt, alloc, gate, jobs, most)
+    let looked = look_at_all(rt, alloc, jobs)?;
+    let done = read_looked(rt, alloc, gate, looked)?;
+    Ok(done)
 }
 
 /// What the shards gave, with all that their passes have seen and their looks joined into the session's pass; nothing where one of them

@@ -20,6 +20,8 @@ use Rattle.vschema.specs.declared.schema.Place.{Place}
 use Rattle.serving.specs.Partitions.{Seat, IsPartition}
 use Rattle.shard.specs.Entries.{HasLooked}
 use Rattle.shard.specs.Shards.{AnswersQuery}
+use Rattle.shard.specs.BegunReads.{HasBegunRead}
+use Rattle.shard.specs.declared.snapshot.BegunRead.{BegunRead}
 use Rattle.shard_calls.specs.declared.reply.ShardRead.{ShardRead}
 use Rattle.shard_calls.specs.declared.reply.Tried.{Tried}
 use Rattle.shard_calls.specs.declared.reply.Tried.TheVariants.{Done, Again}
@@ -72,6 +74,29 @@ pub record IsReadingOf (o : Opening) (a : ShardRequest) (g : ShardReply) : Type 
   pub in_place : shard.place ≡ a.place
   pub looked : HasLooked o a.slot a.pass g.pass
   pub read : IfOk g.outcome (AnswersQuery o g.pass.seen shard a.query)
+
+-- the shard's slot, the query that it is asked, the pass by which it was looked at, and what the look left to read
+pub record ShardLook : Type 0 where
+  pub slot : ℕ
+  pub query : Query
+  pub pass : PassView Entry
+  pub begun : Result BegunRead AllocError
+
+-- the shard of this slot and place was looked at once, and what is left to read is of its rows as of that look, unless a growth was refused
+pub record IsLookFor (o : Opening) (a : ShardRequest) (l : ShardLook) : Type 0 where
+  pub slot : l.slot ≡ a.slot
+  pub query : l.query ≡ a.query
+  pub shard : ShardRecord
+  pub stands : IsOnItsSlot o l.pass.seen shard
+  pub served : HasServed o l.pass.seen shard
+  pub on_slot : shard.slot ≡ a.slot
+  pub in_place : shard.place ≡ a.place
+  pub looked : HasLooked o a.slot a.pass l.pass
+  pub begun : IfOk l.begun (HasBegunRead o l.pass.seen shard a.query)
+
+-- whatever was asked by the look, this is its reading
+abbrev pub IsFinishOf : Opening → ShardLook → ShardReply → Type 0
+IsFinishOf o l g = (a : ShardRequest) → IsLookFor o a l → IsReadingOf o a g
 
 abbrev pub rows_of_read : ReadOutcome → List Row
 rows_of_read (Rows r) = r.rows

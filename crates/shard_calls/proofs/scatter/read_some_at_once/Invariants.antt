@@ -1,16 +1,15 @@
 use Rattle.std.proofs.Common.{◌≡◌, ◌++◌, List, length}
 use Rattle.std.specs.List.{AllZip}
 use Rattle.std.specs.Vec.Iter.{into_iter_items, into_iter_len}
-use Rattle.shard.specs.Seats.{place_at}
-use Rattle.shard_calls.specs.inner.Scatter.{IsReadingOf}
+use Rattle.shard_calls.specs.inner.Scatter.{IsFinishOf}
 use Rattle.shard_calls.proofs.scatter.read_some_at_once.Given as goal
 
--- the jobs so far, each with its reading, those that are to be read next, and those still to come are all
+-- the looks so far, each with its reading, those that are to be read next, and those still to come are all
 abbrev pub invariant-loop-job : goal.invariant-loop-job
 invariant-loop-job g l =
     record {
-      read : (xs : List _) × ((xs ++ l.next.items) ++ into_iter_items l.job-iterator ≡ l.fn.jobs.items)
-          × AllZip (λ job d. IsReadingOf g.W.World.opening (record { slot = job.shard.now.0; place = place_at job.shard.now; query = job.query; pass = job.pass })
+      read : (xs : List _) × ((xs ++ l.next.items) ++ into_iter_items l.job-iterator ≡ l.fn.looked.items)
+          × AllZip (λ job d. IsFinishOf g.W.World.opening (record { slot = job.slot; query = job.query; pass = job.pass; begun = job.begun })
           (record { slot = d.slot; pass = d.pass; outcome = d.outcome })) xs l.done.items;
       long : into_iter_len l.job-iterator ≡ length (into_iter_items l.job-iterator);
     }
