@@ -43,17 +43,16 @@ const UNTIL_FROZEN: [Act<'static>; 9] = [
     RELEASE,
 ];
 
-const UNTIL_RETIRED: [Act<'static>; 10] = [
+// Both shards were looked at while they served, so it needn't wait for the release.
+const UNTIL_RETIRED: [Act<'static>; 8] = [
     FREEZE,
     RETIRE,
     Act::LetGo,
-    Act::Waits,
-    NO_ROOM,
+    Act::Answered,
     SERVE,
     SERVE,
     PUBLISH,
     RELEASE,
-    Act::Answered,
 ];
 
 const BEGUN_FROZEN: [Act<'static>; 9] = [
