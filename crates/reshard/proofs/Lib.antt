@@ -3,3 +3,4 @@ pub mod Through
 pub mod Switches
 pub mod Reopens
 pub mod Serving
+pub mod AllCopied

@@ -1,5 +1,5 @@
 -- What the steps of a cutover do to a workflow and to what the controller's pass has seen.
-use Rattle.std.specs.Prelude.{◌≡◌, ◌⊎◌, ◌≤◌, ◌+◌, ◌^◌, true, false, List, length, Contains, Some, slice_get, slice_set}
+use Rattle.std.specs.Prelude.{◌≡◌, ◌⊎◌, ◌≤◌, ◌+◌, ◌^◌, ◌∷◌, [], true, false, List, length, Contains, Some, slice_get, slice_set}
 use Rattle.std.specs.List.{AllByRecursion}
 use Rattle.vt_value.specs.declared.refusal.Refusal.TheVariants.{OutOfMemory, ShardFull}
 use Rattle.journal.specs.Views.{PassView}
@@ -8,7 +8,7 @@ use Rattle.shard_run.specs.declared.Entry.{Entry}
 use Rattle.shard_run.specs.declared.Event.TheVariants as events
 use Rattle.shard_run.specs.Runs.{Opening, Run, entries_on, stored_on}
 use Rattle.reshard_create.specs.Limits.{Limits}
-use Rattle.reshard_create.specs.FollowSteps.{IsOnward, IsRunBetween, HasStepped, IsFull}
+use Rattle.reshard_create.specs.FollowSteps.{IsOnward, IsRunBetween, HasStepped, HasMovedWith, IsFull}
 use Rattle.reshard_create.specs.Turns.{EachInTurn}
 use Rattle.reshard_create.specs.Step.TheVariants as moves
 use Rattle.reshard_create.specs.ReshardFault.{ReshardFault}
@@ -22,6 +22,7 @@ use Rattle.reshard_create.specs.Steps.{named_for}
 use Rattle.reshard_create.specs.Looks.{HasLookedOnlyAt, HasLookedForOneChange, HasThawed, IsServingAgain, IsCutOver, IsOverfull, IsWithinRows}
 use Rattle.reshard.specs.Workflows.{WorkflowView}
 use Rattle.reshard_create.specs.TargetSources.{TargetWithSources, shards_of}
+use Rattle.reshard_create.specs.Step.{Step}
 use Rattle.reshard_create.specs.FirstMoves.{HasMovedFirst, IsOneStepFirst}
 
 -- a cutover goes on while targets follow, or it has begun
@@ -94,6 +95,38 @@ DoesNoMore w p q Freeze = (s : ShardRecord) × (slice_get w.sources w.frozen ≡
 DoesNoMore w p q Copy = IsOneStepFirst w.targets p q moves.Copied
 DoesNoMore w p q Follow = IsOneStepFirst w.targets p q moves.Followed
 DoesNoMore w p q step = (m : PassView Entry) × ((m ≡ p) ⊎ ((w.retired ≡ 0) × HasFoundReady w p m)) × EndsAlone w m q step
+
+-- steps of the first of the targets that isn't level, one after the other, and nothing else
+pub data HasMovedOn (targets : List TargetWithSources) (p : PassView Entry) : PassView Entry → Type 0 where
+  unmoved : HasMovedOn targets p p
+  moved : {q now : PassView Entry} {step : Step} → HasMovedOn targets p q → IsOneStepFirst targets q now step → HasMovedOn targets p now
+
+-- each of the targets in turn takes steps with its sources, and nothing else is done
+abbrev pub HaveCome : List TargetWithSources → PassView Entry → PassView Entry → Type 0
+HaveCome targets p now = EachInTurn (λ (t : TargetWithSources). HasMovedOn (t ∷ [])) targets p now
+
+-- Before a cutover begins each target copies all tables of each of its sources: at a run that the pass came by it had copied all of the source, and was
+-- level with it (IsLevel). Then the targets move on. All of these are steps of targets with sources of theirs, by which no mode changes.
+pub record HaveComeNear (o : Opening) (targets : List TargetWithSources) (p now : PassView Entry) : Type 0 where
+  pub at : PassView Entry
+  pub come : HaveCome targets p at
+  pub copied : AllByRecursion (λ (t : TargetWithSources). HasMovedWith o t.1 t.0 p at moves.Level) targets
+  pub further : HasMovedOn targets at now
+
+-- steps of a cutover, one after the other, from one workflow to another, and nothing else
+pub data HasSwitchedOn (o : Opening) (w : WorkflowView) (p : PassView Entry) : WorkflowView → PassView Entry → Type 0 where
+  unswitched : HasSwitchedOn o w p w p
+  switched : {mid now : WorkflowView} {q r : PassView Entry} {step : CutoverStep} → HasSwitchedOn o w p mid q → HasSwitched o mid now q r step
+      → DoesNoMore mid q r step → HasSwitchedOn o w p now r
+
+-- A whole cutover: the targets come near, and only then its steps are taken, of which the first is the first freeze. After the last one the pass
+-- looks once more at what they did.
+pub record HasCutOver (o : Opening) (w now : WorkflowView) (p q : PassView Entry) : Type 0 where
+  pub before : PassView Entry
+  pub near : HaveComeNear o w.targets p before
+  pub last : PassView Entry
+  pub steps : HasSwitchedOn o w before now last
+  pub after : IsOnward o last q
 
 -- The first source may retire: all are frozen, each target was found level with its sources, and then, at a run that the pass came by, with no
 -- more rows than a shard that serves may have.

@@ -4,7 +4,9 @@ ghost use Rattle.shard_run.specs.WellFormed.{is_vschema};
 ghost use Rattle.journal.specs.Runs.{IsLegal};
 ghost use Rattle.reshard_create.specs.Entries.{MayFollow};
 ghost use Rattle.reshard_create.specs.FollowSteps.{IsOnward};
-ghost use Rattle.reshard.specs.Cutover.{HasFinished, IsResumed, HasStoppedLater, MaySwitch};
+ghost use Rattle.journal.specs.Views.{PassView};
+ghost use Rattle.shard_run.specs.declared.Entry.{Entry};
+ghost use Rattle.reshard.specs.Cutover.{HasCutOver, HasFinished, HasSwitchedOn, IsResumed, HasStoppedLater, MaySwitch};
 
 use crate::context::WorkflowContext;
 use crate::cutover::CutoverStep;
@@ -63,6 +65,7 @@ impl<W: World, J: Naming> Workflow<W, J> {
         requires legal { IsLegal (MayFollow W.opening) pass.old.seen }
         requires home { context.now.serving.now ≡ self.old.keyspace }
         ensures through { OnOk result (HasFinished self.old self.new pass.new) }
+        ensures steps { OnOk result ((last : PassView Entry) × HasSwitchedOn W.opening self.old pass.old self.new last × IsOnward W.opening last pass.new) }
         ensures refused { IfErr result (HasStoppedLater W.opening W.limits self.old self.new pass.old pass.new) }
         ensures onward { IsOnward W.opening pass.old pass.new }
     {
@@ -77,10 +80,13 @@ impl<W: World, J: Naming> Workflow<W, J> {
     }
 
     // Promise: A whole cutover, begun while targets follow, ends with each source retired and each target serving in what the pass has
-    // seen, and the next partition published; else it stopped as a step does, with nothing retired, and was given up. That the targets
-    // come level before the first source freezes is for tests
-    /// Takes all steps of the cutover that are left: the targets serve then, in the place of the sources. Before the first source freezes it
-    /// brings the targets forward, as `step` does, until all are level, or twice as many entries were followed as their sources had stored.
+    // seen, and the next partition published; else it stopped as a step does, with nothing retired, and was given up. If none was retired when it
+    // began, all that it does until the first freeze is steps of targets with their sources, by which each target copies all tables of each of its
+    // sources; then come the steps of the cutover, and nothing else but looks. That the targets come level before the first source freezes is for
+    // tests
+    /// Takes all steps of the cutover that are left: the targets serve then, in the place of the sources. Before the first source freezes each
+    /// target copies all tables of its sources, however much is written meanwhile, and then the targets come forward, as by `step`, until all
+    /// are level, or twice as many entries were followed as their sources have stored by then.
     /// Refuses if no targets follow, or a cutover has begun. For want of memory, and if a shard would have more rows or entries than it may, the cutover is given up, of which
     /// no source is retired: each source serves again, the statements that waited go on, and the targets follow.
     pub fn switch_traffic(
@@ -96,6 +102,7 @@ impl<W: World, J: Naming> Workflow<W, J> {
         requires home { context.now.serving.now ≡ self.old.keyspace }
         ensures was { OnOk result (self.old.stage ≡ Stage.Following) }
         ensures through { OnOk result (HasFinished self.old self.new pass.new) }
+        ensures steps { OnOk result (self.old.retired ≡ 0 → HasCutOver W.opening self.old self.new pass.old pass.new) }
         ensures refused { IfErr result (λ e. ((e ≡ ReshardFault.WrongState) × (self.old.stage ≡ Stage.Following → ⊥) × (self.new ≡ self.old) × (pass.new ≡ pass.old))
             ⊎ ((self.old.stage ≡ Stage.Following) × HasStoppedLater W.opening W.limits self.old self.new pass.old pass.new e)) }
         ensures onward { IsOnward W.opening pass.old pass.new }

@@ -1,4 +1,4 @@
-//! The targets come level before a cutover freezes their sources, so that writes wait for little.
+//! The targets copy all of their sources, and come level, before a cutover freezes these, so that writes wait for little.
 ghost use Rattle.std.specs.Prelude.{◌≡◌, IfErr, IsTrue, OnOk, map};
 ghost use Rattle.shard_run.specs.WellFormed.{is_vschema};
 ghost use Rattle.journal.specs.Runs.{IsLegal};
@@ -7,9 +7,10 @@ ghost use Rattle.reshard_create.specs.Entries.{MayFollow};
 ghost use Rattle.reshard_create.specs.FollowSteps.{IsOnward};
 ghost use Rattle.reshard_create.specs.Overlapping.{TakeFromOwn};
 ghost use Rattle.reshard_create.specs.FirstMoves.{IsMoveRefusal};
-ghost use Rattle.reshard.specs.Cutover.{HasStopped};
+ghost use Rattle.reshard.specs.Cutover.{HasMovedOn, HaveComeNear, HasStopped};
 
 use crate::context::WorkflowContext;
+use crate::copying::copy_all;
 use crate::workflow::{Stage, Workflow};
 use journal::Naming;
 use reshard_create::{ReshardFault, ShardPass, ShardState, Step, TargetShard, World, move_first};
@@ -59,6 +60,7 @@ fn come_level<W: World, J: Naming>(
     requires formed { IsTrue (is_vschema W.opening.schema) }
     requires own { TakeFromOwn (map (λ t. (t.member.which, map (λ s. s.which) t.sources.items)) targets.now) }
     requires legal { IsLegal (MayFollow W.opening) pass.old.seen }
+    ensures further { OnOk result (HasMovedOn (map (λ t. (t.member.which, map (λ s. s.which) t.sources.items)) targets.now) pass.old pass.new) }
     ensures refused { IfErr result (λ e. IsMoveRefusal W.opening W.limits (map (λ t. (t.member.which, map (λ s. s.which) t.sources.items)) targets.now) pass.new (ReshardFault.Refused e)) }
     ensures onward { IsOnward W.opening pass.old pass.new }
 {
@@ -78,6 +80,29 @@ fn come_level<W: World, J: Naming>(
     unreachable!()
 }
 
+// Has the targets copy all, whatever is stored meanwhile, and then brings them level, until all are, or twice as many entries were followed
+// as their sources have stored by then.
+fn come_near<W: World, J: Naming>(
+    rt: &impl Wait,
+    alloc: Global,
+    pass: &mut ShardPass<W, J>,
+    schema: &VSchema,
+    targets: &[TargetShard<W, J>],
+) -> Result<(), Refusal>
+    requires opens { IsOpening W.opening }
+    requires schema { schema.now ≡ W.opening.schema }
+    requires formed { IsTrue (is_vschema W.opening.schema) }
+    requires own { TakeFromOwn (map (λ t. (t.member.which, map (λ s. s.which) t.sources.items)) targets.now) }
+    requires legal { IsLegal (MayFollow W.opening) pass.old.seen }
+    ensures near { OnOk result (HaveComeNear W.opening (map (λ t. (t.member.which, map (λ s. s.which) t.sources.items)) targets.now) pass.old pass.new) }
+    ensures refused { IfErr result (λ e. IsMoveRefusal W.opening W.limits (map (λ t. (t.member.which, map (λ s. s.which) t.sources.items)) targets.now) pass.new (ReshardFault.Refused e)) }
+    ensures onward { IsOnward W.opening pass.old pass.new }
+{
+    copy_all(rt, alloc, pass, schema, targets)?;
+    let most = most_followed(rt, targets);
+    come_level(rt, alloc, pass, schema, targets, most)
+}
+
 impl<W: World, J: Naming> Workflow<W, J> {
     // Makes the moves that are left before a cutover begins. If one is refused, the cutover is given up.
     pub(crate) fn keep_up(
@@ -91,6 +116,7 @@ impl<W: World, J: Naming> Workflow<W, J> {
         requires schema { context.now.schema.now ≡ W.opening.schema }
         requires formed { IsTrue (is_vschema W.opening.schema) }
         requires legal { IsLegal (MayFollow W.opening) pass.old.seen }
+        ensures near { OnOk result (self.old.retired ≡ 0 → HaveComeNear W.opening self.old.targets pass.old pass.new) }
         ensures same { OnOk result (self.new ≡ self.old) }
         ensures refused { IfErr result (HasStopped W.opening W.limits self.old self.new pass.old pass.new) }
         ensures onward { IsOnward W.opening pass.old pass.new }
@@ -98,9 +124,7 @@ impl<W: World, J: Naming> Workflow<W, J> {
         if self.retired > 0 {
             return Ok(());
         }
-        let targets = self.targets.as_slice();
-        let most = most_followed(rt, targets);
-        match come_level(rt, alloc, pass, context.schema, targets, most) {
+        match come_near(rt, alloc, pass, context.schema, self.targets.as_slice()) {
             Ok(()) => Ok(()),
             Err(refusal) => {
                 self.give_up(rt, pass, context.buffer);

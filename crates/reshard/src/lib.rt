@@ -4,6 +4,7 @@
 mod calls;
 mod completing;
 mod context;
+mod copying;
 mod cutover;
 mod ending;
 mod finishing;

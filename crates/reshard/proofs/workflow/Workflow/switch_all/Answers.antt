@@ -1,6 +1,7 @@
 use Rattle.std.proofs.Common.{rules, ◌≡◌, map, sym, ap, ◌∙◌}
 use Rattle.reshard.specs.declared.cutover.CutoverStep.TheVariants.{Release}
 use Rattle.reshard.specs.Workflows.{WorkflowView}
+use Rattle.reshard.specs.Cutover as cut
 use Rattle.reshard_create.specs.TargetSources.{TargetWithSources}
 use Rattle.reshard_create.proofs.Onward.{still, onward_trans}
 use Rattle.reshard_create.proofs.Residual.{residual_same}
@@ -13,6 +14,7 @@ loop-init g c = record {
   finite = tt;
   further = further_still c.args.self.now;
   may = c.requires.may;
+  steps = cut.unswitched;
   onward = still g.W.World.opening c.args.pass.now c.requires.legal;
 }
 
@@ -52,5 +54,13 @@ loop-preserved g c =
       finite = tt;
       further = further_trans c.args.self.now mid now c.loop.invariant.further (further_switched o mid now c.loop.pass c.switch_step.new.pass step h);
       may = may_still o mid now c.loop.pass c.switch_step.new.pass step h n c.loop.invariant.may;
+      steps = cut.switched c.loop.invariant.steps h c.in_ok-step.ensures.once;
       onward = onward_trans o c.args.pass.now c.loop.pass c.switch_step.new.pass c.loop.invariant.onward c.switch_step.ensures.onward;
     }
+
+pub returns-then-eq-clause-steps : goal.returns-then-eq-clause-steps
+returns-then-eq-clause-steps g c = (
+  c.switch_step.new.pass,
+  cut.switched c.loop.invariant.steps c.in_ok-step.ensures.switched c.in_ok-step.ensures.once,
+  c.confirm_cutover.ensures.onward,
+)

@@ -1,5 +1,5 @@
 use Rattle.reshard_create.specs.FollowSteps.{IsOnward}
-use Rattle.reshard.specs.Cutover.{IsFurther, MaySwitch}
+use Rattle.reshard.specs.Cutover.{HasSwitchedOn, IsFurther, MaySwitch}
 use Rattle.reshard.proofs.workflow.Workflow.switch_all.Given as goal
 
 -- so far the cutover went on
@@ -10,5 +10,6 @@ invariant-loop g l =
       finite : (goal.iterator-loop g).is_finite l.iterator';
       further : IsFurther l.fn.self l.self;
       may : MaySwitch l.self;
+      steps : HasSwitchedOn g.W.World.opening l.fn.self l.fn.pass l.self l.pass;
       onward : IsOnward g.W.World.opening l.fn.pass l.pass;
     }

@@ -2,10 +2,14 @@ use Rattle.std.proofs.Common.{rules, ◌≡◌, inl, inr, ap, ◌∙◌, subst}
 use Rattle.std.specs.Prelude.{OnOk}
 use Rattle.reshard.specs.declared.workflow.Stage.TheVariants.{Following}
 use Rattle.reshard.specs.Workflows.{WorkflowView}
-use Rattle.reshard.specs.Cutover.{HasFinished, HasStoppedLater}
+use Rattle.journal.specs.Views.{PassView}
+use Rattle.shard_run.specs.declared.Entry.{Entry}
+use Rattle.reshard_create.specs.FollowSteps.{IsOnward}
+use Rattle.reshard.specs.Cutover.{HasFinished, HasSwitchedOn, HasStoppedLater}
 use Rattle.reshard_create.proofs.Onward.{still, onward_trans}
 use Rattle.reshard_create.proofs.Residual.{residual_same}
 use Rattle.reshard.proofs.Through.{further_still, stopped_later, stopped_since, err_as}
+use Rattle.std.proofs.lemmas.Result.{on_ok_weaker}
 use Rattle.reshard.proofs.workflow.Workflow.switch_traffic.Goals as goal
 
 pub returns-in_err-keep_up-clause-refused : goal.returns-in_err-keep_up-clause-refused
@@ -48,3 +52,20 @@ returns-clause-refused g c =
 pub returns-clause-onward : goal.returns-clause-onward
 returns-clause-onward g c =
     onward_trans g.W.World.opening c.args.pass.now c.keep_up.new.pass c.switch_all.new.pass c.keep_up.ensures.onward c.switch_all.ensures.onward
+
+pub returns-clause-steps : goal.returns-clause-steps
+returns-clause-steps g c =
+    let o = g.W.World.opening in
+    let now = c.switch_all.new.self in
+    let mid = c.keep_up.new.pass in
+    let q = c.switch_all.new.pass in
+    on_ok_weaker c.switch_all.result
+    (λ h none.
+    let w = subst (λ (w : WorkflowView). (last : PassView Entry) × HasSwitchedOn o w mid now last × IsOnward o last q) c.in_ok-keep_up.ensures.same h in
+    record {
+      before = mid;
+      near = c.in_ok-keep_up.ensures.near none;
+      last = w.0;
+      steps = w.1;
+      after = w.2;
+    }) c.switch_all.ensures.steps

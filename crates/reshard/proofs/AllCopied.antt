@@ -1,0 +1,70 @@
+-- Targets copy all of their sources, one after the other.
+use Rattle.std.proofs.Common.{◌≡◌, ◌<◌, ℕ, zero, suc, ◌+◌, ◌≤◌, List, [], ◌∷◌, ◌++◌, length, map, take, get_or, refl, sym, ap, ◌∙◌, subst, arith, length-append}
+use Rattle.std.specs.Prelude.{Contains}
+use Rattle.std.specs.List.{AllByRecursion}
+use Rattle.std.proofs.lemmas.List.{take_more, map-append}
+use Rattle.journal.specs.Views.{PassView}
+use Rattle.shard_run.specs.declared.Entry.{Entry}
+use Rattle.shard_run.specs.Runs.{Opening}
+use Rattle.reshard_create.specs.Limits.{Limits}
+use Rattle.reshard_create.specs.ReshardFault.{ReshardFault}
+use Rattle.reshard_create.specs.FollowSteps.{IsOnward, HasMovedWith}
+use Rattle.reshard_create.specs.Step.{Step}
+use Rattle.reshard_create.specs.Step.TheVariants.{Level}
+use Rattle.reshard_create.specs.Turns.{EachInTurn}
+use Rattle.reshard_create.specs.Turns as turns
+use Rattle.reshard_create.specs.TargetSources.{TargetWithSources}
+use Rattle.reshard_create.specs.FirstMoves.{HasMovedFirst, IsMoveRefusal}
+use Rattle.reshard_create.specs.FirstMoves as first_moves
+use Rattle.reshard_create.proofs.Lists.{all-weaker}
+use Rattle.reshard_create.proofs.Moving.{with_after, with_later}
+use Rattle.reshard_create.proofs.Retiring.{all_map_next, map_at}
+
+-- the first of one target is this one
+module _ (o : Opening) (t : TargetWithSources) (p now : PassView Entry) where
+  only : (before after : List TargetWithSources) (x : TargetWithSources) (step : Step) → t ∷ [] ≡ before ++ x ∷ after → HasMovedWith o x.1 x.0 p now step
+      → HasMovedWith o t.1 t.0 p now step
+  only [] after x step is h = subst (λ (y : TargetWithSources). HasMovedWith o y.1 y.0 p now step) (sym (ap (λ (l : List TargetWithSources). get_or l 0 x) is)) h
+  only (b ∷ before) after x step is h =
+      let long = ap length is in
+      let more = length-append before (x ∷ after) in
+      absurd (omega (arith, long, more))
+
+  pub level_one : (step : Step) → step ≡ Level → HasMovedFirst o (t ∷ []) p now step → HasMovedWith o t.1 t.0 p now Level
+  level_one step at (first_moves.one before after x is all moved) =
+      subst (HasMovedWith o t.1 t.0 p now) at (only before after x step is moved)
+  level_one step at (first_moves.all_level all) = all.0
+
+pub refused_one : (o : Opening) (most : Limits) (targets : List TargetWithSources) (t : TargetWithSources) (now : PassView Entry) (e : ReshardFault) → Contains targets t
+    → IsMoveRefusal o most (t ∷ []) now e → IsMoveRefusal o most targets now e
+refused_one o most targets t now _ there first_moves.no_memory = first_moves.no_memory
+refused_one o most targets t now _ there (first_moves.full x (zero, within, is) full) =
+    first_moves.full x (subst (Contains targets) is there) full
+refused_one o most targets t now _ there (first_moves.full x (suc n, within, is) full) = absurd (omega (arith, within))
+
+-- one target more
+module _ {T : Type 0} (f : T → TargetWithSources) (targets : List T) (n : ℕ) (t : T) (there : n < length targets) (is : t ≡ get_or targets n t) where
+  pub among : Contains (map f targets) (f t)
+  among = let w = map_at f targets n t there is in (n, w.0, sym w.1)
+
+  pub copied_next : (o : Opening) (p q now : PassView Entry) → IsOnward o p q → IsOnward o q now → HasMovedWith o (f t).1 (f t).0 q now Level
+      → AllByRecursion (λ (t : TargetWithSources). HasMovedWith o t.1 t.0 p q Level) (map f (take n targets))
+      → AllByRecursion (λ (t : TargetWithSources). HasMovedWith o t.1 t.0 p now Level) (map f (take (n + 1) targets))
+  copied_next o p q now before on one so_far =
+      all_map_next (λ (t : TargetWithSources). HasMovedWith o t.1 t.0 p now Level) f targets n t there is
+      (all-weaker (λ (t : TargetWithSources). HasMovedWith o t.1 t.0 p q Level) (λ (t : TargetWithSources). HasMovedWith o t.1 t.0 p now Level)
+      (λ t h. with_later o t.1 t.0 p q now on h) (map f (take n targets)) so_far)
+      (with_after o (f t).1 (f t).0 p q now before Level one)
+
+  pub turn_next : (Part : TargetWithSources → PassView Entry → PassView Entry → Type 0) (p q now : PassView Entry) → EachInTurn Part (map f (take n targets)) p q
+      → Part (f t) q now → EachInTurn Part (map f (take (n + 1) targets)) p now
+  turn_next Part p q now before part =
+      let more = take_more targets n t there ∙ ap (λ x. take n targets ++ x ∷ []) (sym is) in
+      subst (λ (l : List T). EachInTurn Part (map f l) p now) (sym more)
+      (subst (λ (l : List TargetWithSources). EachInTurn Part l p now) (sym (map-append f (take n targets) (t ∷ []))) (turns.next before part))
+
+pub all_of : {T : Type 0} (targets : List T) (n : ℕ) → length targets ≤ n → take n targets ≡ targets
+all_of [] zero far = refl
+all_of [] (suc n) far = refl
+all_of (t ∷ targets) zero far = absurd (omega (arith, far))
+all_of (t ∷ targets) (suc n) far = ap (λ l. t ∷ l) (all_of targets n (omega (arith, far)))
