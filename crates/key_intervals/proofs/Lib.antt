@@ -1,0 +1,5 @@
+pub mod Conjuncts
+mod ColumnLemmas
+mod NextLemmas
+mod SortedValues
+pub mod KeyLemmas

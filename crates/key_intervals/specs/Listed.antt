@@ -1,0 +1,16 @@
+-- Values that a condition lists.
+use Rattle.std.specs.Prelude.{◌≡◌, Bool, false, List, [], ◌∷◌, ⊤}
+use Rattle.std.specs.List.{list_any}
+use Rattle.std.specs.Ordering.{is_eq, is_lt}
+use Rattle.vt_value.specs.declared.value.Value.{Value}
+use Rattle.vt_value.specs.Values.{value_cmp}
+
+-- a value is one of these
+abbrev pub is_among : List Value → Value → Bool
+is_among values x = list_any (λ v. is_eq (value_cmp v x)) values
+
+-- no value is below the one before it
+abbrev pub Climbs : List Value → Type 0
+Climbs [] = ⊤
+Climbs (v ∷ []) = ⊤
+Climbs (v ∷ w ∷ values) = (is_lt (value_cmp w v) ≡ false) × Climbs (w ∷ values)
