@@ -19,7 +19,8 @@ use Rattle.sql_tree.specs.declared.Operand.TheVariants.{Column, Literal}
 use Rattle.sql_eval.specs.Conditions.{operand_value}
 use Rattle.sql_eval.proofs.OrderLemmas.{value_cmp-total, value_cmp-same}
 use Rattle.key_intervals.specs.declared.column.Interval.{Interval}
-use Rattle.key_intervals.specs.Intervals.{turned, is_above, is_under, is_inside}
+use Rattle.key_intervals.specs.Intervals.{is_above, is_under, is_inside}
+use Rattle.key_intervals.specs.inner.Turned.{turned}
 
 told : (b : Bool) → is_true (truth_of b) ≡ true → b ≡ true
 told true e = refl

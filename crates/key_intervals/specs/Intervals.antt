@@ -6,8 +6,7 @@ use Rattle.std.specs.Cmp.Lexicographic.{slice_cmp}
 use Rattle.std.specs.declared.ops.Bound.{Bound}
 use Rattle.std.specs.declared.ops.Bound.TheVariants.{Included, Excluded, Unbounded}
 use Rattle.vt_value.specs.declared.value.Value.{Value}
-use Rattle.vt_value.specs.declared.value.Comparison.{Comparison}
-use Rattle.vt_value.specs.declared.value.Comparison.TheVariants.{Eq, Ne, Lt, Le, Gt, Ge}
+use Rattle.vt_value.specs.declared.value.Comparison.TheVariants.{Lt, Le, Gt, Ge}
 use Rattle.vt_value.specs.Values.{value_cmp, fits_order}
 use Rattle.key_intervals.specs.declared.column.Interval.{Interval}
 use Rattle.key_intervals.specs.declared.keys.KeyInterval.{KeyInterval}
@@ -27,15 +26,6 @@ is_under (Excluded v) x = fits_order Lt (value_cmp x v.now)
 -- the value lies in the interval
 abbrev pub is_inside : Interval → Value → Bool
 is_inside i x = is_above i.low x && is_under i.high x
-
--- the operator that says the same of the two sides in turn
-abbrev pub turned : Comparison → Comparison
-turned Eq = Eq
-turned Ne = Ne
-turned Lt = Gt
-turned Le = Ge
-turned Gt = Lt
-turned Ge = Le
 
 -- a key is before the list of values, if one is given
 abbrev pub is_below : Option (List Value) → List Value → Bool

@@ -3,7 +3,8 @@ ghost use Rattle.std.specs.Prelude.{◌≡◌, List, map, true, IfSome};
 ghost use Rattle.vt_value.specs.declared.value.Value.{Value as V};
 ghost use Rattle.vt_value.specs.Values.{value_at, value_cmp, is_true, all_true, compare, fits_order};
 ghost use Rattle.sql_eval.specs.Conditions.{truth_at, operand_value};
-ghost use Rattle.key_intervals.specs.Intervals.{is_above, is_under, is_inside, turned};
+ghost use Rattle.key_intervals.specs.Intervals.{is_above, is_under, is_inside};
+ghost use Rattle.key_intervals.specs.inner.Turned.{turned};
 
 use sql_tree::{Condition, Operand};
 use std::ops::Bound;
