@@ -1,10 +1,10 @@
 -- The rows of several values: a walk for each of them, one after the other.
 use Rattle.std.proofs.Common.{◌≡◌, ℕ, zero, suc, ◌+◌, ◌<◌, length, drop, append_assoc, option_copied, Bool, true, false, cond, ◌||◌, List, [], ◌∷◌, ◌++◌, map, filter, flat_map, get_or, Option, Some, None, Bor, refl, sym, ap, ◌∙◌, subst, arith}
-use Rattle.std.specs.Prelude.{IsSorted, IsPermutation, MatchOption, option_to_list}
+use Rattle.std.specs.Prelude.{MatchOption, option_to_list}
 use Rattle.std.proofs.lemmas.List.{append-nil}
+use Rattle.std.proofs.lemmas.List.Elements.{filter-append}
 use Rattle.std.specs.List.{AllByRecursion, list_any}
-use Rattle.std.specs.List.Sorted.{IsStrictlySortedBy, IsSortedByClosure}
-use Rattle.std.specs.Fn.{Called}
+use Rattle.std.specs.List.Sorted.{IsStrictlySortedBy}
 use Rattle.std.specs.Map.{keys_of}
 use Rattle.std.specs.Cmp.{Equal-is}
 use Rattle.std.specs.Cmp.Lexicographic.{slice_cmp}
@@ -12,45 +12,15 @@ use Rattle.std.specs.Ordering.{is_eq, is_lt, is_le, ordering_then, ordering_reve
 use Rattle.std.specs.declared.cmp.Ordering.{Ordering}
 use Rattle.std.specs.declared.cmp.Ordering.TheVariants.{Less, Equal, Greater}
 use Rattle.std.proofs.lemmas.Bool.{false≢true}
-use Rattle.std.proofs.lemmas.Fn.{always_returns_same}
-use Rattle.std.proofs.lemmas.List.Sorted.{ranks_by, IsPermutation-map, list_any-IsPermutation}
-use denote.Param.Members.{Mut}
 use Rattle.vt_value.specs.declared.value.Value.{Value}
 use Rattle.vt_value.specs.Values.{Row, value_cmp}
 use Rattle.sql_eval.proofs.OrderLemmas.{value_cmp-total, value_cmp-same}
 use Rattle.shard_store.specs.Keys.{row_key_cmp}
 use Rattle.shard_store.specs.Slots.{Slot, rows_in, begins, slots_with}
-use Rattle.shard_store.specs.Chosen.{is_among, Climbs, slots_among}
-use Rattle.shard_store.specs.inner.Chosen.{risen}
+use Rattle.key_intervals.specs.Listed.{is_among, Climbs}
+use Rattle.shard_store.specs.inner.Chosen.{slots_among, risen}
 use Rattle.shard_store.proofs.Prefix.{Ascend, ascend, none_with, none_after}
 use Rattle.shard_store.proofs.KeptRows.{none_any}
-
--- ---- values in their order
-
-climbing : (xs : List (Bor Value)) → IsSorted (λ (a : Bor Value) (b : Bor Value). value_cmp a.now b.now) xs → Climbs (map (λ (b : Bor Value). b.now) xs)
-climbing [] up = tt
-climbing (x ∷ []) up = tt
-climbing (x ∷ y ∷ xs) up = (
-  up 0 x (omega arith) (omega arith),
-  climbing (y ∷ xs) (λ k d low within.
-      let same : suc k + 1 ≡ suc (k + 1) = omega arith in
-      subst (λ m. is_lt (value_cmp (get_or (x ∷ y ∷ xs) m d).now (get_or (x ∷ y ∷ xs) (suc k) d).now) ≡ false) same
-      (up (suc k) d (omega arith) (omega (arith, within)))),
-)
-
--- a sort by a closure that compares values
-pub sorted_values : {F : Type 0} {g : Mut F (Bor (Bor Value) × (Bor (Bor Value) × Unit {0})) Ordering} {f : F} (xs : List (Bor Value)) → IsSortedByClosure g f xs
-    → ((a : Bor (Bor Value) × (Bor (Bor Value) × Unit {0})) (r : Ordering) (f' : F) → Called g f a r f' → (r ≡ value_cmp a.0.now.now a.1.0.now.now) × (f' ≡ f))
-    → Climbs (map (λ (b : Bor Value). b.now) xs)
-sorted_values {g = g} {f = f} xs up h =
-    climbing xs (up (λ a b. is_lt (value_cmp a.now b.now)) (ranks_by value_cmp-total (λ (b : Bor Value). b.now))
-    (always_returns_same g (λ a r. is_lt r ≡ is_lt (value_cmp a.0.now.now a.1.0.now.now)) f (λ a r f' k. (ap is_lt (h a r f' k).0, (h a r f' k).1))))
-
-pub same_values : (xs ys : List (Bor Value)) (values : List Value) (x : Value) → IsPermutation xs ys → map (λ (b : Bor Value). b.now) xs ≡ values
-    → is_among (map (λ (b : Bor Value). b.now) ys) x ≡ is_among values x
-same_values xs ys values x h is =
-    sym (list_any-IsPermutation (λ v. is_eq (value_cmp v x)) (map (λ (b : Bor Value). b.now) xs) (map (λ (b : Bor Value). b.now) ys)
-    (IsPermutation-map (λ (b : Bor Value). b.now) xs ys h)) ∙ ap (λ (vs : List Value). is_among vs x) is
 
 -- ---- the values that are above the last one
 
@@ -189,23 +159,32 @@ one_more : (walks : List (List Row)) (w : List Row) → flat_map (λ rows. rows)
 one_more [] w = append-nil w
 one_more (x ∷ walks) w = ap (λ (z : List Row). x ++ z) (one_more walks w) ∙ sym (append_assoc x (flat_map (λ rows. rows) walks) w)
 
-module _ (F : Value → List Row) (last : Option (Bor Value)) (b : Bor Value) (xs : List (Bor Value)) (i : ℕ) (walks : List (List Row)) (r : Bool) (all : List Row)
+-- what is kept stays the same if a part is replaced of which the same is kept
+middle : (k : Row → Bool) (a w v b : List Row) → filter k w ≡ filter k v → filter k (a ++ (w ++ b)) ≡ filter k (a ++ (v ++ b))
+middle k a w v b same =
+    filter-append k a (w ++ b)
+    ∙ ap (λ (z : List Row). filter k a ++ z) (filter-append k w b ∙ ap (λ (z : List Row). z ++ filter k b) same ∙ sym (filter-append k v b))
+    ∙ sym (filter-append k a (v ++ b))
+
+module _ (k : Row → Bool) (F : Value → List Row) (last : Option (Bor Value)) (b : Bor Value) (xs : List (Bor Value)) (i : ℕ) (walks : List (List Row)) (r : Bool) (all : List Row)
     (within : i < length xs) (is : b ≡ get_or xs i b) (tells : MatchOption last (r ≡ true) (λ l. r ≡ is_lt (value_cmp l.now b.now)))
-    (so_far : flat_map (λ rows. rows) walks ++ flat_map F (risen (option_copied last) (map (λ (b : Bor Value). b.now) (drop i xs))) ≡ all) where
+    (so_far : filter k (flat_map (λ rows. rows) walks ++ flat_map F (risen (option_copied last) (map (λ (b : Bor Value). b.now) (drop i xs)))) ≡ all) where
   abbrev left : List Value
   left = map (λ (b : Bor Value). b.now) (drop (i + 1) xs)
 
-  at : flat_map (λ rows. rows) walks ++ flat_map F (risen (option_copied last) (b.now ∷ left)) ≡ all
-  at = ap (λ (l : List (Bor Value)). flat_map (λ rows. rows) walks ++ flat_map F (risen (option_copied last) (map (λ (b : Bor Value). b.now) l))) (sym (front xs i b within is)) ∙ so_far
+  at : filter k (flat_map (λ rows. rows) walks ++ flat_map F (risen (option_copied last) (b.now ∷ left))) ≡ all
+  at =
+      ap (λ (l : List (Bor Value)). filter k (flat_map (λ rows. rows) walks ++ flat_map F (risen (option_copied last) (map (λ (b : Bor Value). b.now) l))))
+      (sym (front xs i b within is)) ∙ so_far
 
-  pub more_walked : (w : List Row) (now : List (List Row)) → r ≡ true → w ≡ F b.now → now ≡ walks ++ w ∷ []
-      → flat_map (λ rows. rows) now ++ flat_map F (risen (Some b.now) left) ≡ all
+  pub more_walked : (w : List Row) (now : List (List Row)) → r ≡ true → filter k w ≡ filter k (F b.now) → now ≡ walks ++ w ∷ []
+      → filter k (flat_map (λ rows. rows) now ++ flat_map F (risen (Some b.now) left)) ≡ all
   more_walked w now t rows new =
-      ap (λ (l : List (List Row)). flat_map (λ rows. rows) l ++ flat_map F (risen (Some b.now) left)) new
-      ∙ ap (λ (z : List Row). z ++ flat_map F (risen (Some b.now) left)) (one_more walks w)
-      ∙ append_assoc (flat_map (λ rows. rows) walks) w (flat_map F (risen (Some b.now) left))
-      ∙ ap (λ (z : List Row). flat_map (λ rows. rows) walks ++ (z ++ flat_map F (risen (Some b.now) left))) rows
-      ∙ ap (λ (vs : List Value). flat_map (λ rows. rows) walks ++ flat_map F vs) (sym (taken last b left r tells t)) ∙ at
+      ap (λ (l : List (List Row)). filter k (flat_map (λ rows. rows) l ++ flat_map F (risen (Some b.now) left))) new
+      ∙ ap (λ (z : List Row). filter k (z ++ flat_map F (risen (Some b.now) left))) (one_more walks w)
+      ∙ ap (filter k) (append_assoc (flat_map (λ rows. rows) walks) w (flat_map F (risen (Some b.now) left)))
+      ∙ middle k (flat_map (λ rows. rows) walks) w (F b.now) (flat_map F (risen (Some b.now) left)) rows
+      ∙ ap (λ (vs : List Value). filter k (flat_map (λ rows. rows) walks ++ flat_map F vs)) (sym (taken last b left r tells t)) ∙ at
 
-  pub none_walked : r ≡ false → flat_map (λ rows. rows) walks ++ flat_map F (risen (option_copied last) left) ≡ all
-  none_walked t = ap (λ (vs : List Value). flat_map (λ rows. rows) walks ++ flat_map F vs) (sym (passed last b left r tells t)) ∙ at
+  pub none_walked : r ≡ false → filter k (flat_map (λ rows. rows) walks ++ flat_map F (risen (option_copied last) left)) ≡ all
+  none_walked t = ap (λ (vs : List Value). filter k (flat_map (λ rows. rows) walks ++ flat_map F vs)) (sym (passed last b left r tells t)) ∙ at

@@ -1,8 +1,7 @@
 -- The pairs that a condition keeps, of the first rows that can have such pairs.
-use Rattle.std.proofs.Common.{◌≡◌, ℕ, ◌+◌, ◌<◌, Bool, true, false, cond, List, [], ◌∷◌, ◌++◌, map, filter, IsPermutation, Option, Some, None, Bor, refl, sym, ap, ◌∙◌, subst, arith}
-use Rattle.std.proofs.lemmas.Bool.{false≢true}
-use Rattle.std.specs.Prelude.{IfSome}
-use Rattle.std.specs.List.{AllByRecursion}
+use Rattle.std.proofs.Common.{◌≡◌, ℕ, ◌+◌, ◌<◌, Bool, true, false, ◌&&◌, cond, nat_lt, List, [], ◌∷◌, ◌++◌, map, filter, IsPermutation, Option, Some, None, Bor, refl, sym, ap, ◌∙◌, subst, arith}
+use Rattle.std.proofs.lemmas.Bool.{false≢true, ltb-true}
+use Rattle.std.specs.List.{AllByRecursion, list_all}
 use Rattle.std.proofs.lemmas.List.Elements.{filter-append, All-from_recursion, recursion_from_All}
 use Rattle.std.proofs.lemmas.List.Sorted.{IsPermutation-refl, IsPermutation-sym, All-permutation, length_permutation}
 use Rattle.std.specs.Ordering.{is_eq}
@@ -22,8 +21,8 @@ use Rattle.sql_eval.proofs.PairValues.{left_at, right_at}
 use Rattle.shard_store.specs.declared.equalities.Fixed.{Fixed}
 use Rattle.shard_store.specs.Chosen.{fits}
 use Rattle.shard_store.specs.Slots.{rows_in}
-use Rattle.shard_store.specs.Tables.{TableView}
-use Rattle.shard_store.specs.inner.Joined.{passes, has_value, may_have, StoredBy, stored_rows, stored_with, rows_lent}
+use Rattle.shard_store.specs.Tables.{TableView, key_at}
+use Rattle.shard_store.specs.inner.Joined.{passes, has_value, StoredBy, stored_rows, stored_with, rows_lent}
 use Rattle.sql_eval.specs.Groups.{CanBeSummed}
 use Rattle.sql_eval.proofs.DistinctRows.{filter_true}
 use Rattle.sql_eval.proofs.Pairs.{pairs_permuted}
@@ -82,19 +81,6 @@ kept_of_chosen k p j h chosen rows others seconds is =
         filter-append p chosen others ∙ ap (λ (l : List Row). l ++ filter p others) (ap (filter p) is ∙ filter_twice p rows)
         ∙ sym (filter-append p rows others)
 
--- a first row of a pair that is kept has one of the values that are given
-pub fixed_firsts : (values : Option Fixed) (column : ℕ) (k : Row → Bool) (j : Join)
-    → IfSome values (λ f. (a b : Row) → is_pair j a b ≡ true → k (paired j a b) ≡ true → fits f (value_at a column) ≡ true)
-    → (a b : Row) → is_pair j a b ≡ true → k (paired j a b) ≡ true → may_have values column a ≡ true
-fixed_firsts None column k j h a b pair kept = refl
-fixed_firsts (Some f) column k j h a b pair kept = h a b pair kept
-
--- and so has a row that is kept
-pub fixed_rows : (values : Option Fixed) (column : ℕ) (k : Row → Bool) → IfSome values (λ f. (row : Row) → k row ≡ true → fits f (value_at row column) ≡ true)
-    → (row : Row) → k row ≡ true → may_have values column row ≡ true
-fixed_rows None column k h row kept = refl
-fixed_rows (Some f) column k h row kept = h row kept
-
 -- the pairs of a permutation of the second rows
 pub seconds_permuted : (j : Join) (firsts us vs : List Row) → IsPermutation us vs → IsPermutation (pairs_of j firsts us) (pairs_of j firsts vs)
 seconds_permuted j firsts us vs same = pairs_permuted j firsts firsts us vs (IsPermutation-refl firsts) same
@@ -129,11 +115,6 @@ answer_of_firsts q j own firsts seconds rows list is passed answer =
     answer_of_same_kept q rows (pairs_of j firsts seconds) list
     (ap (filter (is_kept q.filter)) is ∙ kept_of_firsts (is_kept q.filter) own j (λ a b pair kept. passed a b kept) firsts seconds) answer
 
--- where no values are given, each row may have one
-pub all_may : (column : ℕ) (rows : List Row) → rows ≡ filter (may_have None column) rows
-all_may column [] = refl
-all_may column (row ∷ rows) = ap (λ (l : List Row). row ∷ l) (all_may column rows)
-
 -- rows are found by their value among those in slots and among the others
 pub all_found : (column : ℕ) (v : Value) (stored : Option (Bor TableView)) (sorted others : List (Bor Row)) (slots : List Row) → StoredBy column stored
     → slots ≡ stored_with v stored → rows_lent others ≡ filter (has_value column v) (rows_lent sorted)
@@ -167,6 +148,20 @@ null_is_alone j a first null (b ∷ rows) =
 -- a column of the first row that the condition on pairs fixes
 pub fixed_of_first : (j : Join) (f : Fixed) (a b : Row) (c : ℕ) → c < j.width → fits f (value_at (paired j a b) c) ≡ true → fits f (value_at a c) ≡ true
 fixed_of_first j f a b c within e = subst (λ (v : Value). fits f v ≡ true) (left_at j.width a b c within) e
+
+-- the key of a pair is that of its first row, if its columns are all that row's
+pub key_of_first : (j : Join) (a b : Row) (cs : List ℕ) → list_all (λ n. nat_lt n j.width) cs ≡ true → key_at cs (paired j a b) ≡ key_at cs a
+key_of_first j a b [] h = refl
+key_of_first j a b (c ∷ cs) h = by (key_of_first j a b cs) (nat_lt c j.width) refl h
+  where
+    by : (list_all (λ n. nat_lt n j.width) cs ≡ true → key_at cs (paired j a b) ≡ key_at cs a) → (t : Bool) → nat_lt c j.width ≡ t
+        → (nat_lt c j.width && list_all (λ n. nat_lt n j.width) cs) ≡ true → key_at (c ∷ cs) (paired j a b) ≡ key_at (c ∷ cs) a
+    by ih true e g =
+        let rest : list_all (λ n. nat_lt n j.width) cs ≡ true = sym (ap (λ t. t && list_all (λ n. nat_lt n j.width) cs) e) ∙ g in
+        let first : value_at (paired j a b) c ≡ value_at a c = left_at j.width a b c (ltb-true c j.width e) in
+        let others : key_at cs (paired j a b) ≡ key_at cs a = ih rest in
+        (λ i. first i ∷ others i)
+    by ih false e g = absurd (false≢true (sym (ap (λ t. t && list_all (λ n. nat_lt n j.width) cs) e) ∙ g))
 
 -- and that of the second row that it is equal to
 pub fixed_of_second : (j : Join) (f : Fixed) (a b : Row) (c : ℕ) → c < j.width → c ≡ j.first → is_pair j a b ≡ true

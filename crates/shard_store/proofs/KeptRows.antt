@@ -15,9 +15,8 @@ use Rattle.vt_value.specs.declared.value.Comparison.TheVariants.{Eq}
 use Rattle.sql_eval.proofs.OrderLemmas.{value_cmp-same, value_cmp-total}
 use Rattle.sql_tree.specs.declared.Operand.{Operand}
 use Rattle.sql_tree.specs.declared.Operand.TheVariants.{Column, Literal}
-use Rattle.vt_value.specs.Values.{Row, value_at, value_cmp, is_true, is_null, all_true, truth_and, truth_of, fits_order, compare, in_list}
-use Rattle.vt_value.specs.declared.value.Truth.{Truth}
-use Rattle.vt_value.specs.declared.value.Truth.TheVariants.{True, False, Unknown}
+use Rattle.vt_value.specs.Values.{Row, value_at, value_cmp, is_true, is_null, truth_of, fits_order, compare, in_list}
+use Rattle.vt_value.specs.declared.value.Truth.TheVariants.{False, Unknown}
 use Rattle.vt_value.specs.declared.refusal.Refusal.TheVariants.{DuplicateKey}
 use Rattle.sql_tree.specs.declared.Assignment.{Assignment}
 use Rattle.sql_tree.specs.declared.Condition.{Condition}
@@ -35,7 +34,7 @@ use Rattle.sql_eval.specs.Queries.{keyed_row, keyed_groups, kept_rows, IsAnswer}
 use Rattle.sql_eval.specs.Writes.{has_duplicate, assigned, row_updates, changes_over}
 use Rattle.sql_eval.proofs.RowLemmas.{has_key, has_duplicate-same}
 use Rattle.shard_store.specs.Tables.{key_at}
-use Rattle.shard_store.specs.Chosen.{is_among}
+use Rattle.key_intervals.specs.Listed.{is_among}
 use Rattle.shard_store.specs.Stores.{RowsView}
 
 -- ---- conditions
@@ -50,6 +49,20 @@ filter_weaker p q h (x ∷ xs) = by (filter_weaker p q h xs) (q x) refl (p x) re
     by ih true t false u = simp (t, u, ih)
     by ih false t true u = absurd (false≢true (sym t ∙ h x u))
     by ih false t false u = simp (t, u, ih)
+
+-- tests that are the same of what is kept keep the same of it
+pub filter_alike : {X : Type 0} (k p q : X → Bool) → ((x : X) → k x ≡ true → p x ≡ q x) → (xs : List X) → filter k (filter p xs) ≡ filter k (filter q xs)
+filter_alike k p q h [] = refl
+filter_alike {X = X} k p q h (x ∷ xs) = by (k x) refl (p x) refl (q x) refl (filter_alike k p q h xs)
+  where
+    by : (a : Bool) → k x ≡ a → (b : Bool) → p x ≡ b → (c : Bool) → q x ≡ c → filter k (filter p xs) ≡ filter k (filter q xs)
+        → filter k (cond (p x) (x ∷ filter p xs) (filter p xs)) ≡ filter k (cond (q x) (x ∷ filter q xs) (filter q xs))
+    by a s true t true u ih = rw (t, u) (ap (λ (l : List X). cond (k x) (x ∷ l) l) ih)
+    by a s false t false u ih = rw (t, u) ih
+    by true s true t false u ih = absurd (false≢true (sym u ∙ sym (h x s) ∙ t))
+    by true s false t true u ih = absurd (false≢true (sym t ∙ h x s ∙ u))
+    by false s true t false u ih = rw (t, u, s) ih
+    by false s false t true u ih = rw (t, u, s) ih
 
 pub filter_twice : {X : Type 0} (p : X → Bool) (xs : List X) → filter p (filter p xs) ≡ filter p xs
 filter_twice p xs = filter_weaker p p (λ x e. e) xs
@@ -89,20 +102,6 @@ pub delete_of_kept : (t : Table) (w : Write) (n : ℕ) (condition : Option (Cond
 delete_of_kept t w n condition is rows =
     subst (λ (w : Write). changes_over t w (filter (is_kept condition) rows) ≡ changes_over t w rows) (sym is)
     (ap (λ (l : List Row). Ok (map (Removed n) l)) (filter_twice (is_kept condition) rows))
-
-both_true : (s t : Truth) → is_true (truth_and s t) ≡ true → (is_true s ≡ true) × (is_true t ≡ true)
-both_true True t e = (refl, e)
-both_true False t e = cc
-both_true Unknown True e = cc
-both_true Unknown False e = cc
-both_true Unknown Unknown e = cc
-
--- a conjunct of a condition that is true
-pub one_true : {X : Type 0} (f : X → Truth) (xs : List X) (i : ℕ) (x : X) → i < length xs → x ≡ get_or xs i x → is_true (all_true (map f xs)) ≡ true
-    → is_true (f x) ≡ true
-one_true f [] i x l is e = absurd (omega (arith, l))
-one_true f (y ∷ xs) zero x l is e = ap (λ z. is_true (f z)) is ∙ (both_true (f y) (all_true (map f xs)) e).0
-one_true f (y ∷ xs) (suc i) x l is e = one_true f xs i x (omega (arith, l)) is (both_true (f y) (all_true (map f xs)) e).1
 
 -- ---- new rows
 

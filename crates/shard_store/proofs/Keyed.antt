@@ -1,10 +1,10 @@
 -- A table's rows, where each stands in the slot of its own key.
-use Rattle.std.proofs.Common.{◌≡◌, ◌≤◌, ℕ, Bool, true, false, cond, ◌||◌, List, [], ◌∷◌, ◌++◌, length, filter, option_to_list, Option, Some, None, Result, Ok, Err, is_some, option_copied, Bor, refl, sym, ap, ◌∙◌, subst, arith}
+use Rattle.std.proofs.Common.{◌≡◌, ◌≤◌, ℕ, Bool, true, false, cond, ◌&&◌, ◌||◌, List, [], ◌∷◌, ◌++◌, length, map, filter, flat_map, option_to_list, Option, Some, None, Result, Ok, Err, is_some, option_copied, Bor, refl, sym, ap, ◌∙◌, subst, arith}
 use Rattle.std.proofs.lemmas.List.{append-nil, length-append}
 use Rattle.std.specs.List.{AllByRecursion, list_any}
 use Rattle.std.specs.List.Sorted.{IsStrictlySortedBy}
 use Rattle.std.specs.Map.{keys_of}
-use Rattle.std.specs.Ordering.{is_eq, match_ordering}
+use Rattle.std.specs.Ordering.{is_eq, is_le, match_ordering}
 use Rattle.std.specs.Option.{option_and_then}
 use Rattle.std.specs.Cmp.{Equal-is}
 use Rattle.std.specs.Cmp.Lexicographic.{slice_cmp}
@@ -16,13 +16,19 @@ use Rattle.vt_value.specs.Values.{Row, value_at, value_cmp}
 use Rattle.sql_eval.specs.Database.{same_row, without}
 use Rattle.shard_store.specs.declared.key.RowKey.{RowKey}
 use Rattle.shard_store.specs.Keys.{row_key_cmp}
-use Rattle.shard_store.specs.Slots.{Slot, rows_in, slot_at, row_at, begins, slots_with, with_slot, with_row, without_slot}
+use Rattle.shard_store.specs.Slots.{Slot, rows_in, slot_at, row_at, begins, may_begin, is_before, goes_on, slots_with, with_slot, with_row, without_slot}
+use Rattle.shard_store.specs.inner.Slots.{slots_between}
 use Rattle.shard_store.specs.Tables.{key_at, has_key, begins_with, IsAtItsKey}
-use Rattle.shard_store.specs.Chosen.{is_among, slots_among}
+use Rattle.key_intervals.specs.declared.keys.KeyInterval.{KeyInterval}
+use Rattle.key_intervals.specs.Intervals.{is_below, in_interval}
+use Rattle.key_intervals.specs.Listed.{is_among, Climbs}
+use Rattle.shard_store.specs.inner.Chosen.{risen, slots_among, lies_between}
+use Rattle.sql_eval.proofs.OrderLemmas.{value_cmp-same}
 use Rattle.shard_store.specs.Proofs.KeyLemmas.{key-same}
 use Rattle.shard_store.proofs.Rows.{row_is, nil_is, head_is, tail_is}
 use Rattle.shard_store.proofs.Bags.{same_self}
 use Rattle.shard_store.proofs.Prefix.{Ascend, ascend}
+use Rattle.shard_store.proofs.Among.{walked}
 
 abbrev pub Keyed : List ℕ → List Slot → Type 0
 Keyed ordinals slots = AllByRecursion (IsAtItsKey ordinals) slots
@@ -247,3 +253,77 @@ rows_fit (s ∷ slots) =
     let one = one_row s.1 in
     let rest = rows_fit slots in
     omega (arith, n, one, rest)
+
+-- the rows whose keys lie in an interval, and begin with a value, are those of a walk from its one end to the other
+pub inside : (first : Option (Bor Value)) (keys : KeyInterval) (from : RowKey) (below : Option RowKey) (ordinals : List ℕ) (slots : List Slot) → from.values ≡ keys.from
+    → ((k : RowKey) → is_before below k ≡ is_below keys.below k.values) → Keyed ordinals slots
+    → rows_in (slots_between from (goes_on first below) slots) ≡ filter (λ row. lies_between first keys (key_at ordinals row)) (rows_in slots)
+inside first keys from below ordinals slots at before keyed =
+    sym (filter_slots ordinals (λ row. lies_between first keys (key_at ordinals row)) (λ k. is_le (row_key_cmp from k) && goes_on first below k) same slots keyed)
+  where
+    same : (k : RowKey) (row : Row) → k.values ≡ key_at ordinals row → lies_between first keys (key_at ordinals row) ≡ (is_le (row_key_cmp from k) && goes_on first below k)
+    same k row is =
+        sym (ap (λ (vs : Row). is_le (slice_cmp value_cmp vs k.values) && (is_before below k && may_begin first k.values)) at
+        ∙ ap (λ b. is_le (slice_cmp value_cmp keys.from k.values) && (b && may_begin first k.values)) (before k)
+        ∙ ap (λ (vs : Row). lies_between first keys vs) is)
+
+-- a key that lies in an interval does so without a value that it should begin with
+pub lies_inside : (keys : KeyInterval) (key : Row) → in_interval keys key ≡ true → lies_between None keys key ≡ true
+lies_inside keys key e = by (is_le (slice_cmp value_cmp keys.from key)) (is_below keys.below key) e
+  where
+    by : (a b : Bool) → (a && b) ≡ true → (a && (b && true)) ≡ true
+    by true true f = refl
+    by true false f = f
+    by false b f = f
+
+-- all rows are those whose keys lie in an interval of all keys
+pub all_inside : (keys : KeyInterval) (ordinals : List ℕ) (rows : List Row) → ((key : Row) → in_interval keys key ≡ true)
+    → rows ≡ filter (λ row. lies_between None keys (key_at ordinals row)) rows
+all_inside keys ordinals [] all = refl
+all_inside keys ordinals (row ∷ rows) all =
+    let is = lies_inside keys (key_at ordinals row) (all (key_at ordinals row)) in
+    let rest = all_inside keys ordinals rows all in
+    rw is (ap (λ (l : List Row). row ∷ l) rest)
+
+-- ---- the rows of several values
+
+-- a row's key begins with a value, and lies in the interval of the keys that do so, if the row has the value in its first key column
+pub begun_inside : (v : Bor Value) (keys : KeyInterval) (ordinals others : List ℕ) (row : Row) → ordinals ≡ slice_index ordinals 0 ∷ others
+    → in_interval keys (v.now ∷ map (value_at row) others) ≡ true → lies_between (Some v) keys (key_at ordinals row) ≡ begins_with ordinals v.now row
+begun_inside v keys ordinals others row split inside = ap (λ (l : List ℕ). lies_between (Some v) keys (key_at l row)) split ∙ by (value_cmp v.now x) refl
+  where
+    x : Value
+    x = value_at row (slice_index ordinals 0)
+
+    rest : Row
+    rest = map (value_at row) others
+
+    none : (a b : Bool) → (a && (b && false)) ≡ false
+    none true true = refl
+    none true false = refl
+    none false b = refl
+
+    by : (o : Ordering) → value_cmp v.now x ≡ o
+        → (is_le (slice_cmp value_cmp keys.from (x ∷ rest)) && (is_below keys.below (x ∷ rest) && is_eq (value_cmp v.now x))) ≡ is_eq (value_cmp v.now x)
+    by Equal t =
+        let same : v.now ≡ x = value_cmp-same v.now x t in
+        let here : lies_between None keys (x ∷ rest) ≡ true = subst (λ (y : Value). lies_between None keys (y ∷ rest) ≡ true) same (lies_inside keys (v.now ∷ rest) inside) in
+        ap (λ o. is_le (slice_cmp value_cmp keys.from (x ∷ rest)) && (is_below keys.below (x ∷ rest) && is_eq o)) t ∙ here ∙ sym (ap is_eq t)
+    by Less t =
+        ap (λ o. is_le (slice_cmp value_cmp keys.from (x ∷ rest)) && (is_below keys.below (x ∷ rest) && is_eq o)) t
+        ∙ none (is_le (slice_cmp value_cmp keys.from (x ∷ rest))) (is_below keys.below (x ∷ rest)) ∙ sym (ap is_eq t)
+    by Greater t =
+        ap (λ o. is_le (slice_cmp value_cmp keys.from (x ∷ rest)) && (is_below keys.below (x ∷ rest) && is_eq o)) t
+        ∙ none (is_le (slice_cmp value_cmp keys.from (x ∷ rest))) (is_below keys.below (x ∷ rest)) ∙ sym (ap is_eq t)
+
+-- walks of each value, of which the same is kept as of its rows, are the rows of all
+pub all_begun : (k : Row → Bool) (ordinals : List ℕ) (sorted values : List Value) (slots : List Slot) (walked_rows : List Row) → 1 ≤ length ordinals → Keyed ordinals slots
+    → IsStrictlySortedBy row_key_cmp (keys_of slots) → Climbs sorted → ((x : Value) → is_among sorted x ≡ is_among values x)
+    → filter k walked_rows ≡ filter k (flat_map (λ v. filter (begins_with ordinals v) (rows_in slots)) (risen None sorted))
+    → filter k walked_rows ≡ filter k (filter (λ row. is_among values (value_at row (slice_index ordinals 0))) (rows_in slots))
+all_begun k ordinals sorted values slots walked_rows some keyed up climbs same is =
+    is
+    ∙ ap (filter k) ((λ i. flat_map (λ v. sym (begun ordinals v slots some keyed) i) (risen None sorted))
+    ∙ walked sorted slots climbs up
+    ∙ begun_any ordinals sorted slots some keyed
+    ∙ (λ i. filter (λ row. same (value_at row (slice_index ordinals 0)) i) (rows_in slots)))

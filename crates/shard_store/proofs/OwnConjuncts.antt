@@ -41,13 +41,6 @@ passes_more (d ∷ own) c row all one = by (λ rest. passes_more own c row rest 
         let none : false ≡ true = rw e at all in
         absurd (false≢true none)
 
--- the members of an AND that is true
-pub all_members : (p : Row) (c : Condition ℕ) (ds gs : List (Condition ℕ)) → c ≡ And ds → gs ≡ ds → is_true (truth_at p c) ≡ true
-    → is_true (all_true (map (truth_at p) gs)) ≡ true
-all_members p c ds gs is same e =
-    ap (λ (x : List (Condition ℕ)). is_true (all_true (map (truth_at p) x))) same
-    ∙ ap is_true (sym (ap (truth_at p) is ∙ truth_at-And p ds)) ∙ e
-
 -- one member more
 pub same_next : (f g : Condition ℕ → Truth) (xs : List (Condition ℕ)) (i : ℕ) (x : Condition ℕ) → i < length xs → x ≡ get_or xs i x → f x ≡ g x
     → map f (take i xs) ≡ map g (take i xs) → map f (take (i + 1) xs) ≡ map g (take (i + 1) xs)

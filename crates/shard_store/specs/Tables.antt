@@ -1,12 +1,11 @@
 -- A table's rows, each in the slot of its own key: the values of the table's key columns.
-use Rattle.std.specs.Prelude.{false, IsSome, ◌≡◌, ℕ, Bool, List, length, map, slice_index, Some}
-use Rattle.std.specs.List.{AllByRecursion, list_any}
+use Rattle.std.specs.Prelude.{◌≡◌, ℕ, Bool, List, length, map, slice_index, Some}
+use Rattle.std.specs.List.{AllByRecursion}
 use Rattle.std.specs.Ordering.{is_eq}
 use Rattle.vt_value.specs.declared.value.Value.{Value}
 use Rattle.vt_value.specs.Values.{Row, value_at, value_cmp}
 use Rattle.sql_eval.specs.Database.{same_row}
-use Rattle.shard_store.specs.Slots.{Slot, rows_in, slot_at}
-use Rattle.shard_store.specs.declared.key.RowKey.{RowKey}
+use Rattle.shard_store.specs.Slots.{Slot, rows_in}
 
 -- a table: its slots, those that can be changed without memory, and the ordinals of its key columns
 pub record TableView : Type 0 where

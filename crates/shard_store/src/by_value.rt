@@ -132,7 +132,7 @@ fn slots_with<'a>(
     match stored {
         Some(table) => {
             let rows = table.rows_with(alloc, value)?;
-            Ok(Some(ChosenSlots::With(rows)))
+            Ok(Some(ChosenSlots::Between(rows)))
         }
         None => Ok(None),
     }

@@ -133,6 +133,12 @@ impl KeyValues {
     pub fn new(alloc: Global, values: Row) -> Result<KeyValues, AllocError>
         ensures ok { IfOk result (λ k. k ≡ values) }
     {
+        if let [Value::Int(number)] = values.as_slice() {
+            if let Ok(number) = i64::try_from(*number) {
+                let listing = Listing::Number(number);
+                return Ok(KeyValues { listing });
+            }
+        }
         let listing = listing_of(alloc, values)?;
         Ok(KeyValues { listing })
     }

@@ -1,5 +1,6 @@
 //! What a join gives over the stored rows of two tables.
-ghost use Rattle.std.specs.Prelude.{◌≡◌, ◌<◌, true, IfOk, IfSome, IsPermutation, List, None, filter, length, slice_index};
+ghost use Rattle.std.specs.Prelude.{◌≡◌, ◌<◌, ◌++◌, true, IfOk, IfSome, IsPermutation, List, None, filter, length, nat_lt, slice_index};
+ghost use Rattle.std.specs.List.{list_all};
 ghost use Rattle.vt_value.specs.declared.value.Value.{Value as V};
 ghost use Rattle.vt_value.specs.Values.{value_at};
 ghost use Rattle.sql_eval.specs.Checks.{is_aggregated};
@@ -8,7 +9,8 @@ ghost use Rattle.sql_eval.specs.Sources.{is_pair, paired, pairs_of};
 ghost use Rattle.sql_eval.specs.Conditions.{is_kept};
 ghost use Rattle.sql_eval.specs.Groups.{CanBeSummed};
 ghost use Rattle.sql_eval.specs.Queries.{IsAnswer};
-ghost use Rattle.shard_store.specs.Chosen.{fits, rows_chosen};
+ghost use Rattle.shard_store.specs.Slots.{rows_in};
+ghost use Rattle.shard_store.specs.Chosen.{fits, slots_chosen, rows_chosen};
 
 use crate::by_value::RowsByValue;
 use crate::equalities::{Fixed, fixed_first};
@@ -17,7 +19,8 @@ use crate::shared_row::SharedRows;
 use crate::stored::StoredTables;
 use crate::table::StoredTable;
 use crate::table_rows::TableRows;
-use crate::walk::ChosenRows;
+use crate::walk::{ChosenRows, ChosenSlots};
+use key_intervals::key_interval;
 use sql_eval::{Join, Query, select_local};
 use std::alloc::{AllocError, Global};
 use vt_value::{Items, Row};
@@ -38,6 +41,52 @@ impl StoredTable {
     }
 }
 
+// Whether these are columns of the first row of each pair.
+fn are_of_first(columns: &[usize], join: Join) -> bool
+    ensures { result ≡ list_all (λ c. nat_lt c join.width) columns.now }
+{
+    columns.iter().all(|column| *column < join.width)
+}
+
+impl StoredTable {
+    // Rows in slots that include the first rows of all pairs that a query keeps: those of keys between which the condition has them.
+    fn firsts_between(
+        &self,
+        alloc: Global,
+        query: &Query,
+        join: Join,
+    ) -> Result<ChosenSlots<'_>, AllocError>
+        ensures ok { IfOk result (λ rows. (others seconds : List (List V)) → filter (is_kept query.now.filter) (pairs_of join (slots_chosen rows ++ others) seconds)
+            ≡ filter (is_kept query.now.filter) (pairs_of join (rows_in self.now.slots ++ others) seconds)) }
+    {
+        if !are_of_first(self.key_columns(), join) {
+            return Ok(ChosenSlots::All(self.rows()));
+        }
+        let keys = key_interval(alloc, &query.filter, self.key_columns())?;
+        self.chosen_inside(alloc, keys)
+    }
+
+    // Rows in slots that include the first rows of all pairs that a query keeps: all for an aggregated one, which is answered over all pairs.
+    fn firsts<'a>(
+        &'a self,
+        alloc: Global,
+        query: &'a Query,
+        join: Join,
+    ) -> Result<ChosenSlots<'a>, AllocError>
+        ensures all { IfOk result (λ rows. is_aggregated query.now ≡ true → slots_chosen rows ≡ rows_in self.now.slots) }
+        ensures kept { IfOk result (λ rows. (others seconds : List (List V)) → filter (is_kept query.now.filter) (pairs_of join (slots_chosen rows ++ others) seconds)
+            ≡ filter (is_kept query.now.filter) (pairs_of join (rows_in self.now.slots ++ others) seconds)) }
+    {
+        if query.is_aggregated() {
+            return Ok(ChosenSlots::All(self.rows()));
+        }
+        match self.first_pair_values(query, join) {
+            Some(values) => self.chosen_of(alloc, values),
+            None => self.firsts_between(alloc, query, join),
+        }
+    }
+}
+
 impl TableRows {
     // Rows that include the first rows of all pairs that a query keeps.
     fn firsts<'a>(
@@ -50,8 +99,7 @@ impl TableRows {
         ensures kept { IfOk result (λ rows. (seconds : List (List V)) → filter (is_kept query.now.filter) (pairs_of join (rows_chosen rows) seconds)
             ≡ filter (is_kept query.now.filter) (pairs_of join self.now.rows seconds)) }
     {
-        let values = self.stored.first_pair_values(query, join);
-        let slots = self.stored.chosen_by(alloc, values)?;
+        let slots = self.stored.firsts(alloc, query, join)?;
         Ok(ChosenRows {
             slots,
             unslotted: SharedRows::new(self.unslotted.as_slice()),

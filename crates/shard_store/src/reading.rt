@@ -1,6 +1,6 @@
 //! What queries give and what writes change, over the stored rows. If a condition fixes the first key column to values, the rows of these
 //! values alone are looked at, and an INSERT looks each of its keys up.
-ghost use Rattle.std.specs.Prelude.{◌≡◌, ◌⊎◌, ◌<◌, true, IsTrue, IfOk, IfErr, IfSome, MatchOption, Ok, Err, List, [], map, flat_map, filter, length, slice_index, option_to_list, option_copied};
+ghost use Rattle.std.specs.Prelude.{◌≡◌, ◌⊎◌, ◌<◌, true, IsTrue, IfOk, IfErr, IfSome, MatchOption, Ok, Err, None, List, [], map, flat_map, filter, length, slice_index, option_to_list, option_copied};
 ghost use Rattle.std.specs.List.{list_any};
 ghost use Rattle.vt_value.specs.declared.value.Value.{Value as V};
 ghost use Rattle.vt_value.specs.Values.{value_at};
@@ -17,7 +17,7 @@ ghost use Rattle.shard_store.specs.Slots.{rows_in};
 ghost use Rattle.shard_store.specs.Tables.{key_at, begins_with};
 ghost use Rattle.shard_store.specs.inner.Stores.{IsInsertOf};
 ghost use Rattle.shard_store.specs.Chosen.{fits, slots_chosen, rows_chosen, rows_at};
-ghost use Rattle.shard_store.specs.inner.Joined.{may_have};
+ghost use Rattle.shard_store.specs.inner.Chosen.{lies_between};
 
 use crate::equalities::{Fixed, fixed_values};
 use crate::primary::are_key_ordinals;
@@ -28,6 +28,7 @@ use crate::stored::StoredTables;
 use crate::table::StoredTable;
 use crate::table_rows::TableRows;
 use crate::walk::{AllRows, ChosenRows, ChosenSlots, RowsAt};
+use key_intervals::{KeyInterval, key_interval};
 use sql_eval::{
     Query, RowChange, Table, Write, all_kept, change_local, removals_from, select_from,
     select_local, updates_from,
@@ -77,8 +78,8 @@ impl StoredTable {
         Ok(self.get(&key))
     }
 
-    // The rows in slots whose first key column has one of the values.
-    fn chosen_of<'a>(
+    /// The rows in slots whose first key column has one of the values.
+    pub(crate) fn chosen_of<'a>(
         &'a self,
         alloc: Global,
         fixed: Fixed<'a>,
@@ -89,7 +90,7 @@ impl StoredTable {
         match fixed {
             Fixed::One(value) => {
                 let rows = self.rows_with(alloc, value)?;
-                Ok(ChosenSlots::With(rows))
+                Ok(ChosenSlots::Between(rows))
             }
             Fixed::Among(values) => {
                 let rows = self.rows_among(alloc, values)?;
@@ -98,19 +99,31 @@ impl StoredTable {
         }
     }
 
-    // The rows in slots whose first key column has one of the values; all, if none are given.
-    pub(crate) fn chosen_by<'a>(
-        &'a self,
+    /// The rows in slots whose keys lie in an interval.
+    pub(crate) fn chosen_inside(
+        &self,
         alloc: Global,
-        fixed: Option<Fixed<'a>>,
-    ) -> Result<ChosenSlots<'a>, AllocError>
-        requires { IfSome fixed (λ f. 0 < length self.now.ordinals) }
-        ensures ok { IfOk result (λ rows. slots_chosen rows ≡ filter (may_have fixed.entry (slice_index self.now.ordinals 0)) (rows_in self.now.slots)) }
+        keys: KeyInterval,
+    ) -> Result<ChosenSlots<'_>, AllocError>
+        ensures ok { IfOk result (λ rows. slots_chosen rows ≡ filter (λ row. lies_between None keys (key_at self.now.ordinals row)) (rows_in self.now.slots)) }
     {
-        match fixed {
-            Some(fixed) => self.chosen_of(alloc, fixed),
-            None => Ok(ChosenSlots::All(self.rows())),
+        if keys.is_whole() {
+            return Ok(ChosenSlots::All(self.rows()));
         }
+        let rows = self.rows_inside(alloc, None, keys)?;
+        Ok(ChosenSlots::Between(rows))
+    }
+
+    // Rows in slots among which are all whose condition is true: those of keys between which the condition has them.
+    fn chosen_between(
+        &self,
+        alloc: Global,
+        condition: &Option<Condition<usize>>,
+    ) -> Result<ChosenSlots<'_>, AllocError>
+        ensures ok { IfOk result (λ rows. filter (is_kept condition.now) (slots_chosen rows) ≡ filter (is_kept condition.now) (rows_in self.now.slots)) }
+    {
+        let keys = key_interval(alloc, condition, self.key_columns())?;
+        self.chosen_inside(alloc, keys)
     }
 
     /// Rows in slots among which are all whose condition is true. Refuses for want of memory.
@@ -121,8 +134,16 @@ impl StoredTable {
     ) -> Result<ChosenSlots<'a>, AllocError>
         ensures ok { IfOk result (λ rows. filter (is_kept condition.now) (slots_chosen rows) ≡ filter (is_kept condition.now) (rows_in self.now.slots)) }
     {
-        let values = self.first_values(condition);
-        self.chosen_by(alloc, values)
+        let Some(fixed) = self.first_values(condition) else {
+            return self.chosen_between(alloc, condition);
+        };
+        match fixed {
+            Fixed::One(_) => self.chosen_between(alloc, condition),
+            Fixed::Among(values) => {
+                let rows = self.kept_among(alloc, condition.as_ref(), values)?;
+                Ok(ChosenSlots::Among(rows))
+            }
+        }
     }
 }
 

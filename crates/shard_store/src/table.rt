@@ -1,21 +1,25 @@
 //! The rows of a table whose keys differ, each in the slot of its key.
 ghost use Rattle.std.specs.Prelude.{◌≡◌, ◌<◌, ◌^◌, ◌&&◌, not, ◌++◌, ◌∷◌, [], IsSome, IsTrue, IfOk, IfErr, OnOk, OnErr, IsPermutation, Some, None, List, option_to_list, option_copied, filter, length, slice_index, is_some, if◌then◌else◌};
 ghost use Rattle.std.specs.List.{AllByRecursion, list_any};
+ghost use Rattle.std.specs.List.Sorted.{IsStrictlySortedBy};
+ghost use Rattle.std.specs.Map.{keys_of};
 ghost use Rattle.vt_value.specs.declared.value.Value.{Value as V};
 ghost use Rattle.vt_value.specs.Values.{value_at};
 ghost use Rattle.sql_eval.specs.Database.{same_row, without};
-ghost use Rattle.shard_store.specs.Slots.{rows_in, slot_at, row_at, slots_from, with_slot, without_slot};
+ghost use Rattle.key_intervals.specs.Intervals.{is_below};
+ghost use Rattle.shard_store.specs.Keys.{row_key_cmp};
+ghost use Rattle.shard_store.specs.Slots.{rows_in, slot_at, row_at, slots_from, with_slot, without_slot, is_before};
 ghost use Rattle.shard_store.specs.Tables.{key_at, has_key, begins_with, IsAtItsKey};
-ghost use Rattle.shard_store.specs.Chosen.{is_among};
-ghost use Rattle.shard_store.specs.inner.Slots.{is_row};
+ghost use Rattle.shard_store.specs.inner.Chosen.{lies_between};
+ghost use Rattle.shard_store.specs.inner.Slots.{is_row, IsAfterFirst};
 ghost use Rattle.shard_store.specs.RowsAfter.{comes_after, IsInOrder};
 
 use crate::key::RowKey;
 use crate::key_values::KeyValues;
 use crate::shared_row::{SharedRow, SlotRow};
 use crate::slots::Slots;
-use crate::sorted::sorted;
-use crate::walk::{RowsAmong, RowsInOrder, RowsWith};
+use crate::walk::{RowsBetween, RowsInOrder};
+use key_intervals::KeyInterval;
 use row_chunks::Walk;
 use sql_eval::Table;
 use std::alloc::{AllocError, Global};
@@ -81,6 +85,19 @@ fn key_values(alloc: Global, ordinals: &[usize], row: &Row) -> Result<KeyValues,
     }
 }
 
+// A key before which others are, if there is one.
+fn key_below(alloc: Global, below: Option<Row>) -> Result<Option<RowKey>, AllocError>
+    ensures ok { IfOk result (λ key. (k : RowKey) → is_before key k ≡ is_below below k.values) }
+{
+    match below {
+        Some(values) => {
+            let values = KeyValues::new(alloc, values)?;
+            Ok(Some(RowKey { values }))
+        }
+        None => Ok(None),
+    }
+}
+
 impl StoredTable {
     /// A table without rows, whose key columns are at these ordinals.
     pub fn new(alloc: Global, ordinals: Items<usize>) -> StoredTable
@@ -129,7 +146,9 @@ impl StoredTable {
     pub(crate) fn slots(&self) -> Walk<'_, RowKey, SlotRow>
         ensures slots { result ≡ self.now.slots }
         ensures keyed { AllByRecursion (IsAtItsKey self.now.ordinals) result }
+        ensures ascend { IsStrictlySortedBy row_key_cmp (keys_of self.now.slots) }
     {
+        let _slots = self.slots.len();
         self.slots.all()
     }
 
@@ -179,7 +198,7 @@ impl StoredTable {
         &'a self,
         alloc: Global,
         value: &'a Value,
-    ) -> Result<RowsWith<'a>, AllocError>
+    ) -> Result<RowsBetween<'a>, AllocError>
         requires { 0 < length self.now.ordinals }
         ensures ok { IfOk result (λ rows. rows ≡ filter (begins_with self.now.ordinals value.now) (rows_in self.now.slots)) }
     {
@@ -187,18 +206,21 @@ impl StoredTable {
         Ok(rows)
     }
 
-    /// The rows whose first key column has one of these values, in the order of their keys. Refuses for want of memory.
-    pub fn rows_among<'a>(
+    /// The rows whose keys lie in an interval and begin with a value, if one is given, in the order of their keys. Refuses for want of memory.
+    pub(crate) fn rows_inside<'a>(
         &'a self,
         alloc: Global,
-        values: &'a [Value],
-    ) -> Result<RowsAmong<'a>, AllocError>
-        requires { 0 < length self.now.ordinals }
-        ensures ok { IfOk result (λ rows. rows ≡ filter (λ row. is_among values.now (value_at row (slice_index self.now.ordinals 0))) (rows_in self.now.slots)) }
+        first: Option<&'a Value>,
+        keys: KeyInterval,
+    ) -> Result<RowsBetween<'a>, AllocError>
+        requires { IsAfterFirst first (record { values = keys.from }) }
+        ensures ok { IfOk result (λ rows. rows ≡ filter (λ row. lies_between first.entry keys (key_at self.now.ordinals row)) (rows_in self.now.slots)) }
     {
-        let sorted = sorted(alloc, values)?;
-        let rows = self.slots.rows_among(alloc, sorted.as_slice())?;
-        Ok(rows)
+        let _slots = self.slots.len();
+        let KeyInterval { from, below } = keys;
+        let values = KeyValues::new(alloc, from)?;
+        let below = key_below(alloc, below)?;
+        Ok(self.slots.rows_between(first, &RowKey { values }, below))
     }
 
     /// The row that has a key, if one has it.

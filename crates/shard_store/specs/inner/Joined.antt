@@ -1,5 +1,5 @@
 -- Rows that are looked up by a value, and which first rows of pairs are looked at.
-use Rattle.std.specs.Prelude.{◌≡◌, ◌<◌, ℕ, Bool, true, false, List, [], ◌∷◌, map, filter, length, slice_index, Option, Some, None}
+use Rattle.std.specs.Prelude.{◌≡◌, ◌<◌, ℕ, Bool, false, List, [], ◌∷◌, map, filter, length, slice_index, Option, Some, None}
 use Rattle.std.specs.Borrow.{Bor}
 use Rattle.std.specs.List.{AllByRecursion, list_all}
 use Rattle.std.specs.Ordering.{is_eq, is_lt}
@@ -9,8 +9,7 @@ use Rattle.sql_tree.specs.declared.Condition.{Condition}
 use Rattle.sql_eval.specs.Conditions.{truth_at}
 use Rattle.shard_store.specs.Slots.{rows_in}
 use Rattle.shard_store.specs.Tables.{TableView, begins_with}
-use Rattle.shard_store.specs.Chosen.{slots_chosen, fits}
-use Rattle.shard_store.specs.declared.equalities.Fixed.{Fixed}
+use Rattle.shard_store.specs.Chosen.{slots_chosen}
 use Rattle.shard_store.specs.declared.walk.ChosenSlots.{ChosenSlots}
 
 -- rows, and the column by whose values they are looked up
@@ -21,11 +20,6 @@ pub record ColumnRows : Type 0 where
 -- the row has the value in the column
 abbrev pub has_value : ℕ → Value → Row → Bool
 has_value column v row = is_eq (value_cmp v (value_at row column))
-
--- the row has one of the values in the column, if values are given
-abbrev pub may_have : Option Fixed → ℕ → Row → Bool
-may_have None column row = true
-may_have (Some f) column row = fits f (value_at row column)
 
 -- each of the conditions is true at the row
 abbrev pub passes : List (Bor (Condition ℕ)) → Row → Bool

@@ -4,7 +4,7 @@ use Rattle.vt_value.specs.declared.value.Truth.{Truth}
 use Rattle.vt_value.specs.Values.{is_true}
 use Rattle.sql_eval.specs.Conditions.{truth_at}
 use Rattle.sql_eval.proofs.ConditionLemmas.{truth_at-And}
-use Rattle.shard_store.proofs.KeptRows.{one_true}
+use Rattle.key_intervals.proofs.Conjuncts.{one_true}
 use Rattle.shard_store.proofs.equalities.+fixed.Goals as goal
 
 some_weaker : {X : Type 0} (o : Option X) (P Q : X → Type 0) → ((x : X) → P x → Q x) → IfSome o P → IfSome o Q

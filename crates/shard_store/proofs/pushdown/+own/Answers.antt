@@ -4,8 +4,8 @@ use Rattle.sql_eval.specs.Sources.{padded_row}
 use Rattle.sql_tree.specs.declared.Condition.{Condition}
 use Rattle.sql_eval.specs.Conditions.{truth_at}
 use Rattle.shard_store.specs.inner.Joined.{passes}
-use Rattle.shard_store.proofs.KeptRows.{one_true}
-use Rattle.shard_store.proofs.OwnConjuncts.{all_members, passes_more, ok_weaker}
+use Rattle.key_intervals.proofs.Conjuncts.{one_true, all_members}
+use Rattle.shard_store.proofs.OwnConjuncts.{passes_more, ok_weaker}
 use Rattle.shard_store.proofs.pushdown.+own.Goals as goal
 
 pub push_own-returns-in-And : goal.push_own-returns-in-And

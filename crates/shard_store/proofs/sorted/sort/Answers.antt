@@ -1,6 +1,0 @@
-use Rattle.std.proofs.Common.{rules}
-use Rattle.shard_store.proofs.Among.{sorted_values}
-use Rattle.shard_store.proofs.sorted.sort.Goals as goal
-
-pub returns-clause-sorted : goal.returns-clause-sorted
-returns-clause-sorted c = sorted_values _ c.in_ok-sort_by.ensures.sorted (λ a r q k. search rules)

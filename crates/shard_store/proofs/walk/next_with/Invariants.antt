@@ -1,9 +1,0 @@
-use Rattle.std.proofs.Common.{◌≡◌, length}
-use Rattle.shard_store.specs.Slots.{rows_in, run_of}
-use Rattle.shard_store.proofs.walk.next_with.Given as goal
-
-abbrev pub invariant-loop-key : goal.invariant-loop-key
-invariant-loop-key l = rows_in (run_of l.value l.slots) ≡ rows_in (run_of l.value l.fn.slots)
-
-abbrev pub decreases-loop-key : goal.decreases-loop-key
-decreases-loop-key l = length l.slots
