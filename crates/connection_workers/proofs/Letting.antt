@@ -5,7 +5,7 @@ use Rattle.connection_workers.specs.declared.pool.Job.{Job}
 use Rattle.connection_workers.specs.declared.pool.Job.TheVariants.{Serve, Stop}
 use Rattle.connection_workers.specs.Letting as t
 use Rattle.connection_workers.specs.Letting.{HasYielded, GaveAll}
-use Rattle.connection_workers.specs.inner.Letting.{EachWas, HasLetIn, HasServedConnections}
+use Rattle.connection_workers.specs.inner.Letting.{EachWas, HasLetIn, HasServedConnections, HasBegunConnections}
 
 module _ {X : Type 0} where
   -- What a worker took so far were connections, each of which was served.
@@ -13,6 +13,12 @@ module _ {X : Type 0} where
     pub taken : List X
     pub own : now ≡ before ++ map Serve taken
     pub each : EachWas P taken
+
+  -- What a worker took so far were connections, each of which was given to its greeter.
+  pub record Begun {G : Type 0} (took : G → X → G → Type 0) (before now : List (Job X)) (first last : G) : Type 0 where
+    pub taken : List X
+    pub own : now ≡ before ++ map Serve taken
+    pub begun : HasYielded took first taken last
 
   -- What an entrance gave so far was put.
   pub record LetIn {E : Type 0} (gives : E → X → E → Type 0) (from now : E) (before after : List (Job X)) : Type 0 where
@@ -44,6 +50,25 @@ module _ {X : Type 0} where
     taken = so.taken;
     own = is ∙ ap (λ (l : List (Job X)). l ++ Stop ∷ []) so.own;
     each = so.each;
+  }
+
+  pub none_begun : {G : Type 0} (took : G → X → G → Type 0) (before : List (Job X)) (first : G) → Begun took before before first first
+  none_begun took before first = record { taken = []; own = sym (append-nil before); begun = t.none }
+
+  pub one_begun : {G : Type 0} (took : G → X → G → Type 0) (before now after : List (Job X)) (first mid last : G) (x : X) → Begun took before now first mid
+      → after ≡ now ++ Serve x ∷ [] → took mid x last → Begun took before after first last
+  one_begun took before now after first mid last x so is one = record {
+    taken = so.taken ++ x ∷ [];
+    own = job_more before now after so.taken x so.own is;
+    begun = t.next so.begun one;
+  }
+
+  pub all_begun : {G : Type 0} (took : G → X → G → Type 0) (before now after : List (Job X)) (first last : G) → Begun took before now first last
+      → after ≡ now ++ Stop ∷ [] → HasBegunConnections took before after first last
+  all_begun took before now after first last so is = record {
+    taken = so.taken;
+    own = is ∙ ap (λ (l : List (Job X)). l ++ Stop ∷ []) so.own;
+    begun = so.begun;
   }
 
   pub none_let_in : {E : Type 0} (gives : E → X → E → Type 0) (from : E) (before : List (Job X)) → LetIn gives from from before before

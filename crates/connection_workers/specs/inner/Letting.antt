@@ -2,7 +2,7 @@
 use Rattle.std.specs.Prelude.{◌≡◌, ℕ, List, [], ◌∷◌, ◌++◌, map, replicate}
 use Rattle.connection_workers.specs.declared.pool.Job.{Job}
 use Rattle.connection_workers.specs.declared.pool.Job.TheVariants.{Serve, Stop}
-use Rattle.connection_workers.specs.Letting.{GaveAll}
+use Rattle.connection_workers.specs.Letting.{HasYielded, GaveAll}
 
 -- Each connection that the source yielded was put into the queue, once and in order, and after them a stop for each worker.
 pub record HasLetIn {E T : Type 0} (gives : E → T → E → Type 0) (ends : E → E → Type 0) (workers : ℕ) (from now : E) (before after : List (Job T)) : Type 0 where
@@ -19,3 +19,9 @@ pub record HasServedConnections {T : Type 0} (before after : List (Job T)) (serv
   pub taken : List T
   pub own : after ≡ (before ++ map Serve taken) ++ (Stop ∷ [])
   pub each : EachWas served taken
+
+-- What a worker that takes turns took: connections, each of which was given to its greeter, once and in order, and then its one stop.
+pub record HasBegunConnections {T G : Type 0} (took : G → T → G → Type 0) (before after : List (Job T)) (from now : G) : Type 0 where
+  pub taken : List T
+  pub own : after ≡ (before ++ map Serve taken) ++ (Stop ∷ [])
+  pub begun : HasYielded took from taken now
