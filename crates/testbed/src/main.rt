@@ -9,7 +9,7 @@
 //! |---|---|---|
 //! | those of `test_low::cases` | | |
 //! | those of `test_connections` | | |
-//! | `pulled`, `threads`, `log`, `limits`, `scene` | the name of a scene of `test_low::cases`, `test_low::threads`, `test_low::logging`, `test_engine::shard_limits` or `test_engine::router` | `ok`, where it went as it is to go |
+//! | `pulled`, `threads`, `workers`, `log`, `limits`, `scene` | the name of a scene of `test_low::cases`, `test_low::threads`, `test_workers`, `test_low::logging`, `test_engine::shard_limits` or `test_engine::router` | `ok`, where it went as it is to go |
 //! | `soak` | seconds, a seed, and maybe `counts`, with blanks between them | `nothing lost or doubled`, and what was done where that is asked for |
 //!
 //! A line that is no case answers `unknown`, and one whose call is refused `refused`.
@@ -34,6 +34,7 @@ fn answer<R: Threads + Wait + Sync + Clock + Net<Listener = TcpListener, Stream 
     match area {
         "pulled" => test_low::cases::answer_pulled(alloc, case, told),
         "threads" => test_low::threads::answer(rt, alloc, case, told),
+        "workers" => test_workers::answer(rt, alloc, case, told),
         "log" => test_low::logging::answer(rt, alloc, case, told),
         "limits" => test_engine::shard_limits::answer(rt, alloc, case, told),
         "scene" => test_engine::router::answer(rt, alloc, case, told),
