@@ -8,3 +8,4 @@ pub mod Readings
 pub mod TextColumns
 pub mod OwnAnswers
 pub mod TextLemmas
+pub mod KeptLemmas

@@ -1,6 +1,7 @@
 pub mod Alone
 pub mod Among
 pub mod Served
+pub mod Turns
 pub mod inner
 pub mod conversation
 pub use Rattle.route_engine.specs.Pendings

@@ -5,6 +5,7 @@ mod answers;
 mod client_reply;
 mod columns;
 mod connection_state;
+mod device;
 mod devices;
 mod end;
 mod local_answers;
@@ -18,8 +19,10 @@ pub use columns::columns_of;
 pub use connection_state::{
     ConnectionState, PendingLogin, Phase, Settings, end_of, first_number, is_in_commands, is_new,
 };
+pub use device::Device;
+pub(crate) use device::{Fetched, Unsent, drop_first, fetch, first_bytes, front_len, send};
 pub use devices::{DeviceFailed, Reader, Sink, Source, Writer};
-pub use end::{End, SessionFault};
+pub use end::{End, SessionFault, Turned};
 pub use login::{keyspace_named, put_answer, put_response};
 pub use reply::{REPLY_ROOM, put_pong, put_refusal};
 pub use responder::{ReplyState, Responder};

@@ -4,11 +4,13 @@
 pub mod conversation;
 mod serve_loop;
 mod session_core;
+mod turns;
 
 pub use crate::conversation::{
-    Access, ConnectionState, DeviceFailed, End, Handshake, PendingLogin, Phase, Reader,
-    SessionFault, Settings, Sink, Source, Writer,
+    Access, ConnectionState, Device, DeviceFailed, End, Handshake, PendingLogin, Phase, Reader,
+    SessionFault, Settings, Sink, Source, Turned, Writer,
 };
 pub use route_engine::ShownRows;
 pub use serve_loop::serve;
 pub use session_core::{COMMAND_LIMIT, Core};
+pub use turns::Conversation;

@@ -2,3 +2,4 @@ pub mod Replies
 pub mod Means
 pub mod Sessions
 pub mod Tellings
+pub mod Kept

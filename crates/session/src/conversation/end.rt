@@ -22,3 +22,14 @@ pub enum SessionFault {
     Write,
     Memory,
 }
+
+/// What a turn of a conversation came to.
+#[derive(Clone, Copy, Debug, PartialEq, Eq)]
+pub enum Turned {
+    /// There is nothing to do for now: the client is to say more, or to take what was written.
+    Waits,
+    /// There may be more to do at once.
+    HasMore,
+    /// The conversation is over: all that it wrote is taken, or it can't go on.
+    Over(Result<End, SessionFault>),
+}
