@@ -313,8 +313,7 @@ module _ (o : Opening) (limits : Limits) (h : Handshake) (p now after : PassView
       sent = is.sent;
       silent = λ fault e. absurd cc;
       talked =
-          let w = said (none_open p) is.talked.4.0 is.talked.0 is.talked.1 is.talked.4.1 is.talked.4.2 in
-          (
+          let w = said (none_open p) is.talked.4.0 is.talked.0 is.talked.1 is.talked.4.1 is.talked.4.2 in (
             is.talked.0 ++ piece,
             is.talked.1 ++ w.0,
             read_on,

@@ -91,6 +91,8 @@ impl<W: World + Send + Sync, J: Naming + Send + Sync, D: Device> Conversation<W,
     ghost use Rattle.session.specs.conversation.Means.{Means, PassAndTransaction, context_of};
     ghost use Rattle.session.specs.conversation.Sessions.{HasTalked};
 
+    // Promise: A conversation begins with its pass, its device and its salt, and nothing is read or written; without memory for it, pass and
+    // device are given back
     /// A conversation that is new: of the connection with this id. It greets its client by the salt, and lets in whom `access` names.
     /// If there is no memory for it, pass and device are given back.
     pub fn begin(
@@ -364,6 +366,9 @@ impl<W: World + Send + Sync, J: Naming + Send + Sync, D: Device> Conversation<W,
         !self.unfed.is_empty()
     }
 
+    // Promise: However its device gives and takes bytes, and whatever is done between its turns, a conversation's turns write what `serve`
+    // writes for what it was fed, to its own device, by its own pass; its end is told once the device has taken all, and again from then on
+    // Clauses: same, over, talk, alone, at_end, read, memory, write, again
     /// Takes a turn: sends what is unsent, or else reads what came and answers one statement. What the device doesn't take is kept, and
     /// nothing is read before it has. The buffer is for what is read, and holds nothing from one turn to the next.
     pub fn turn<G: Gate>(
