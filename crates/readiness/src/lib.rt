@@ -4,7 +4,7 @@
 #![tactic(auto)]
 
 ghost use Rattle.std.specs.Prelude.{◌≡◌};
-ghost use Rattle.readiness.specs.Events.{wanted_events, told_by};
+ghost use Rattle.readiness.specs.inner.Events.{wanted_events, told_by};
 
 use libc::{EBADF, net as c};
 use os::{EpollEvent, FromRawFd};
@@ -123,10 +123,10 @@ impl Readiness {
         self.change(c::EPOLL_CTL_MOD, socket, wanted)
     }
 
-    /// Waits for one event, for at most so many milliseconds, or without end if they are negative.
+    /// Waits for one event, for at most so many milliseconds, or without end if they are negative. A signal ends the wait too.
     pub fn wait<R: Wait>(&self, _rt: &R, milliseconds: i32) -> Told {
         let mut events = [EpollEvent { events: 0, data: 0 }];
-        if os::epoll_wait(self.set.as_raw_fd(), &mut events, milliseconds) == 0 {
+        if os::epoll_wait(self.set.as_raw_fd(), &mut events, milliseconds) != 1 {
             return Told::Nothing;
         }
         told_of(events[0].data)
