@@ -67,7 +67,6 @@ pub const SCHEMAS: TokenKind = TokenKind::Word(Some(Keyword::Schemas));
 
 pub const SELECT: TokenKind = TokenKind::Word(Some(Keyword::Select));
 
-
 pub const SESSION: TokenKind = TokenKind::Word(Some(Keyword::Session));
 
 pub const SESSION_USER: TokenKind = TokenKind::Word(Some(Keyword::SessionUser));
