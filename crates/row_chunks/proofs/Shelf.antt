@@ -1,7 +1,7 @@
 -- A key belongs into one chunk: what is done there is done to all entries.
 use Rattle.std.proofs.Common.{◌≡◌, ℕ, zero, suc, ◌+◌, ◌<◌, ◌≤◌, length, Bool, true, false, not, cond, List, [], ◌∷◌, ◌++◌, Some, None, refl, sym, ap, ◌∙◌, set, get_or, take, ◌-◌, drop, arith}
 use Rattle.std.proofs.lemmas.Bool.{false≢true}
-use Rattle.std.proofs.lemmas.List.{take_rest}
+use Rattle.std.proofs.lemmas.List.{take_rest, append-nil, append_assoc}
 use Rattle.std.specs.Cmp.{IsTotalOrder}
 use Rattle.std.specs.List.{AllByRecursion}
 use Rattle.std.specs.List.Sorted.{IsStrictlySortedBy, IsPartitionedBy, IsPartitionPoint}
@@ -11,7 +11,7 @@ use Rattle.std.specs.declared.cmp.Ordering.TheVariants.{Less, Equal, Greater}
 use Rattle.std.specs.Map.{lookup, set_value, remove_entry}
 use Rattle.std.specs.BTreeMap.{insert_entry, is_at}
 use Rattle.std.specs.BTreeMap.Range.{entries_below, entries_from, entries_between}
-use Rattle.std.specs.declared.ops.Bound.TheVariants.{Included, Unbounded}
+use Rattle.std.specs.declared.ops.Bound.TheVariants.{Included, Excluded, Unbounded}
 use Rattle.row_chunks.specs.Chunks.{ChunkView, all_of, AreBelow, AreFrom, IsBefore, AreParted, IsShelf, span, spans}
 use Rattle.row_chunks.specs.inner.Splits.{AreAbove, begun}
 
@@ -331,6 +331,48 @@ module _ {K : Type 0} {cmp : K → K → Ordering} (o : IsTotalOrder cmp) where
     pub walked_all : (k : K) (chunks : List (ChunkView K X)) → AreParted cmp (spans chunks) → begun cmp k chunks ≡ 0
         → entries_between cmp (Included k) Unbounded (all_of chunks) ≡ all_of chunks
     walked_all k chunks p h = between_front k [] (all_of chunks) (all_above k chunks p (none_begun k chunks p h))
+
+    -- ---- a walk of the entries below a key
+    pub under_front : (k : K) (es fs : List (K × X)) → AreBelow cmp k es
+        → entries_between cmp Unbounded (Excluded k) (es ++ fs) ≡ es ++ entries_between cmp Unbounded (Excluded k) fs
+    under_front k [] fs h = refl
+    under_front k (e ∷ es) fs h = let t = below_greater k e.0 h.0 in let ih = under_front k es fs h.1 in simp (t, ih)
+
+    pub under_none : (k : K) (fs : List (K × X)) → AreAbove cmp k fs → entries_between cmp Unbounded (Excluded k) fs ≡ []
+    under_none k [] h = refl
+    under_none k (f ∷ fs) h = let t = h.0 in let ih = under_none k fs h.1 in simp (t, ih)
+
+    pub under_back : (k : K) (es fs : List (K × X)) → AreAbove cmp k fs
+        → entries_between cmp Unbounded (Excluded k) (es ++ fs) ≡ entries_between cmp Unbounded (Excluded k) es
+    under_back k [] fs h = under_none k fs h
+    under_back k (e ∷ es) fs h = by (under_back k es fs h) (cmp k e.0) refl
+      where
+        by : entries_between cmp Unbounded (Excluded k) (es ++ fs) ≡ entries_between cmp Unbounded (Excluded k) es → (r : Ordering) → cmp k e.0 ≡ r
+            → entries_between cmp Unbounded (Excluded k) (e ∷ (es ++ fs)) ≡ entries_between cmp Unbounded (Excluded k) (e ∷ es)
+        by ih Less t = simp (t, ih)
+        by ih Equal t = simp (t, ih)
+        by ih Greater t = simp (t, ih)
+
+    pub under_there : (k : K) (chunks : List (ChunkView K X)) (n : ℕ) (c : ChunkView K X) → AreParted cmp (spans chunks) → begun cmp k chunks ≡ suc n → get_or chunks n c ≡ c
+        → entries_between cmp Unbounded (Excluded k) (all_of chunks) ≡ all_of (take n chunks) ++ entries_between cmp Unbounded (Excluded k) c.entries
+    unfolding AreParted
+    under_there k [] n c p h at = absurd (omega (arith, h))
+    under_there k (b ∷ chunks) zero c p h at =
+        let there = all_above k chunks p.2 (none_begun k chunks p.2 (first_alone k b chunks h)) in
+        under_back k b.entries (all_of chunks) there ∙ ap (λ (x : ChunkView K X). entries_between cmp Unbounded (Excluded k) x.entries) at
+    under_there k (b ∷ chunks) (suc n) c p h at =
+        let on = not_first k b chunks n h in
+        under_front k b.entries (all_of chunks) (all_below k b chunks n p.1 on)
+        ∙ (ap (λ (es : List (K × X)). b.entries ++ es) (under_there k chunks n c p.2 on at)
+        ∙ sym (append_assoc b.entries (all_of (take n chunks)) (entries_between cmp Unbounded (Excluded k) c.entries)))
+
+    pub under_all : (k : K) (chunks : List (ChunkView K X)) → AreParted cmp (spans chunks) → begun cmp k chunks ≡ 0
+        → entries_between cmp Unbounded (Excluded k) (all_of chunks) ≡ []
+    under_all k chunks p h = under_none k (all_of chunks) (all_above k chunks p (none_begun k chunks p h))
+
+    pub all_last : (chunks : List (ChunkView K X)) (c : ChunkView K X) → all_of (chunks ++ c ∷ []) ≡ all_of chunks ++ c.entries
+    all_last [] c = append-nil c.entries
+    all_last (b ∷ chunks) c = ap (λ (es : List (K × X)). b.entries ++ es) (all_last chunks c) ∙ sym (append_assoc b.entries (all_of chunks) c.entries)
 
     pub left_after : (chunks : List (ChunkView K X)) (n : ℕ) → all_of (take (length chunks - (n + 1)) (drop (n + 1) chunks)) ≡ all_of (drop (suc n) chunks)
     left_after chunks n =

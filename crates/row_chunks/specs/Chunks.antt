@@ -62,6 +62,11 @@ module _ {K X : Type 0} where
   left_of None rest = all_of rest
   left_of (Some first) rest = first ++ all_of rest
 
+  -- what is left of a walk from the last entry on: of the first chunks, and of one chunk's entries
+  abbrev pub before_of : List (ChunkView K X) → Option (List (K × X)) → List (K × X)
+  before_of rest None = all_of rest
+  before_of rest (Some last) = all_of rest ++ last
+
   -- the chunks of a map, its own or those that it shares
   abbrev pub content : {Z : Type 0} → List (ChunkView K X) → Option (Arc (List (ChunkView K X)) Z) → List (ChunkView K X)
   content own None = own

@@ -2,13 +2,13 @@ ghost use Rattle.std.specs.Prelude.{true, ◌≡◌, ◌+◌, ◌<◌, ◌≤◌
 ghost use Rattle.std.specs.Map.{keys_of, lookup, set_value, remove_entry};
 ghost use Rattle.std.specs.BTreeMap.{insert_entry, is_at};
 ghost use Rattle.std.specs.BTreeMap.Range.{entries_between};
-ghost use Rattle.std.specs.declared.ops.Bound.TheVariants.{Included, Unbounded};
+ghost use Rattle.std.specs.declared.ops.Bound.TheVariants.{Included, Excluded, Unbounded};
 ghost use Rattle.std.specs.List.Sorted.{IsStrictlySortedBy};
 ghost use Rattle.row_chunks.specs.Chunks.{ChunkView, AreParted, all_of, open_of, spans};
 ghost use Rattle.row_chunks.specs.inner.Splits.{begun};
 
 use crate::chunk::{Chunk, Same, copy_key};
-use crate::walk::Walk;
+use crate::walk::{Walk, WalkBack};
 use std::alloc::{AllocError, Global};
 use std::marker::Model;
 
@@ -372,6 +372,33 @@ impl<K: Ord + Same, V: Same> Chunks<K, V> {
             None => Walk {
                 first: None,
                 rest: chunks,
+            },
+        }
+    }
+
+    /// All entries, from the last one on.
+    pub fn walk_back(&self) -> WalkBack<'_, K, V>
+        ensures { result ≡ all_of self.now }
+    {
+        WalkBack {
+            rest: self.list.as_slice(),
+            last: None,
+        }
+    }
+
+    /// The entries below a key, from the last one on.
+    pub fn walk_back_below(&self, key: &K) -> WalkBack<'_, K, V>
+        ensures { result ≡ entries_between K.cmp Unbounded (Excluded key.now) (all_of self.now) }
+    {
+        let chunks = self.list.as_slice();
+        match self.place_of(key) {
+            Some(place) => WalkBack {
+                rest: &chunks[..place],
+                last: Some(chunks[place].rows().range(..key)),
+            },
+            None => WalkBack {
+                rest: &chunks[..0],
+                last: None,
             },
         }
     }

@@ -8,4 +8,4 @@ mod walk;
 
 pub use chunk::Same;
 pub use map::ChunkMap;
-pub use walk::Walk;
+pub use walk::{Walk, WalkBack};

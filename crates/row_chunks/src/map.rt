@@ -2,14 +2,14 @@ ghost use Rattle.std.specs.Prelude.{◌≡◌, ◌<◌, ◌^◌, [], None, Some,
 ghost use Rattle.std.specs.Map.{keys_of, lookup, set_value, remove_entry};
 ghost use Rattle.std.specs.BTreeMap.{insert_entry, is_at};
 ghost use Rattle.std.specs.BTreeMap.Range.{entries_between};
-ghost use Rattle.std.specs.declared.ops.Bound.TheVariants.{Included, Unbounded};
+ghost use Rattle.std.specs.declared.ops.Bound.TheVariants.{Included, Excluded, Unbounded};
 ghost use Rattle.std.specs.List.Sorted.{IsStrictlySortedBy};
 ghost use Rattle.std.specs.Arc.{arc_value};
 ghost use Rattle.row_chunks.specs.Chunks.{all_of, content, changeable_in};
 
 use crate::chunk::Same;
 use crate::chunks::Chunks;
-use crate::walk::Walk;
+use crate::walk::{Walk, WalkBack};
 use std::alloc::{AllocError, Global};
 use std::marker::Model;
 use std::mem;
@@ -121,6 +121,20 @@ impl<K: Ord + Same, V: Same> ChunkMap<K, V> {
         ensures { result ≡ entries_between K.cmp (Included key.now) Unbounded self.now.entries }
     {
         self.chunks().walk_from(key)
+    }
+
+    /// All entries, from the last one on.
+    pub fn walk_back(&self) -> WalkBack<'_, K, V>
+        ensures { result ≡ self.now.entries }
+    {
+        self.chunks().walk_back()
+    }
+
+    /// The entries below a key, from the last one on.
+    pub fn walk_back_below(&self, key: &K) -> WalkBack<'_, K, V>
+        ensures { result ≡ entries_between K.cmp Unbounded (Excluded key.now) self.now.entries }
+    {
+        self.chunks().walk_back_below(key)
     }
 
     /// Makes the entry of a key changeable: the one that is there, or one with this value. Refuses for want of memory, or where there is no
