@@ -31,7 +31,7 @@ alone (Int n) (Bytes t) = refl
 alone (Bytes u) (Bytes t) = refl
 
 -- one value more
-column_more : (a : Item ℕ) (vs : List Value) (v : Value) → joined_part a (joined_part a vs ∷ v ∷ []) ≡ joined_part a (vs ++ v ∷ [])
+pub column_more : (a : Item ℕ) (vs : List Value) (v : Value) → joined_part a (joined_part a vs ∷ v ∷ []) ≡ joined_part a (vs ++ v ∷ [])
 column_more (Column c) vs v = refl
 column_more CountRows vs v = ap Int (sym (total_join vs (v ∷ [])))
 column_more (Count c) vs v = ap Int (sym (total_join vs (v ∷ [])))
@@ -114,7 +114,7 @@ sum_kept vs v =
     sum_laws.splits vs (v ∷ []) ∙ (λ i. join_options ◌+ℤ◌ (sym (number_again (total_part vs)) i) (alone_kept v i))
     ∙ ap (λ (p : Value). join_options ◌+ℤ◌ (present_number p) (present_number v)) (sum_is vs)
 
-column_holds : (a : Item ℕ) (vs : List Value) (v : Value) → sizes (vs ++ v ∷ []) < 2 ^ 127 → CanJoin a (joined_part a vs) v
+pub column_holds : (a : Item ℕ) (vs : List Value) (v : Value) → sizes (vs ++ v ∷ []) < 2 ^ 127 → CanJoin a (joined_part a vs) v
 column_holds (Column c) vs v h = tt
 column_holds CountRows vs v h = count_fits vs v h
 column_holds (Count c) vs v h = count_fits vs v h

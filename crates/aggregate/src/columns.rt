@@ -1,6 +1,7 @@
 //! What the parts of aggregate columns give together, as the shards answer them.
-ghost use Rattle.std.specs.Prelude.{◌≡◌, [], ◌∷◌, ◌++◌, ◌+ℤ◌, length, map, reverse, OnOk};
-ghost use Rattle.aggregate.specs.Aggregates.{total, sum_of, least_of, greatest_of, present};
+ghost use Rattle.std.specs.Prelude.{◌≡◌, ◌<◌, ◌^◌, List, [], ◌∷◌, ◌++◌, ◌+ℤ◌, false, length, map, reverse, OnOk};
+ghost use Rattle.vt_value.specs.declared.value.Value.{Value as V};
+ghost use Rattle.aggregate.specs.Aggregates.{total, sum_of, least_of, greatest_of, present, sizes};
 ghost use Rattle.aggregate.specs.Groups.{joined_part};
 ghost use Rattle.aggregate.specs.Parts.{join_options, present_number};
 ghost use Rattle.aggregate.specs.inner.Columns.{with_values, FitTogether, CanJoin, CanJoinAll};
@@ -8,8 +9,8 @@ ghost use Rattle.aggregate.specs.inner.Columns.{with_values, FitTogether, CanJoi
 use crate::joining::Aggregate;
 use crate::sums::{Sum, number, plus};
 use operators::Item;
-use std::alloc::AllocError;
-use vt_value::{Value, sort_order};
+use std::alloc::{AllocError, Global};
+use vt_value::{Value, copy, sort_order};
 
 /// The sum of two parts, of which NULL is none.
 fn total(part: &Value, value: &Value) -> Option<i128>
@@ -53,7 +54,7 @@ fn join_greatest(part: &mut Value, value: Value)
 }
 
 /// What the parts of an aggregate give, of none.
-fn empty_part(aggregate: &Item<usize>) -> Value
+pub fn empty_part(aggregate: &Item<usize>) -> Value
     ensures { result ≡ joined_part aggregate.now [] }
 {
     match aggregate {
@@ -74,6 +75,38 @@ fn join_part(aggregate: &Item<usize>, part: &mut Value, value: Value)
         Item::Min(_) => join_least(part, value),
         Item::Max(_) => join_greatest(part, value),
     }
+}
+
+// Whether a part may change what the parts of an aggregate give: a value that stays need not be copied.
+fn may_change(aggregate: &Item<usize>, total: &Value, part: &Value) -> bool
+    ensures { result ≡ false → joined_part aggregate.now (total.now ∷ part.now ∷ []) ≡ total.now }
+{
+    match aggregate {
+        Item::Min(_) => {
+            !matches!(part, Value::Null)
+                && (matches!(total, Value::Null) || sort_order(part, total).is_lt())
+        }
+        Item::Max(_) => sort_order(total, part).is_lt(),
+        _ => true,
+    }
+}
+
+// Promise: What the parts of an aggregate give together is kept as one value, to which one part after the other is joined
+// With: empty_part
+/// Joins one part more to what the parts of an aggregate give so far. The numbers of the parts stay below 2^127 together. Refuses only for want of memory.
+pub fn add_part(
+    alloc: Global,
+    aggregate: &Item<usize>,
+    total: &mut Value,
+    part: &Value,
+) -> Result<(), AllocError>
+    requires { (parts : List V) × (total.old ≡ joined_part aggregate.now parts) × (sizes (parts ++ part.now ∷ []) < 2 ^ 127) }
+    ensures ok { OnOk result ((parts : List V) → total.old ≡ joined_part aggregate.now parts → total.new ≡ joined_part aggregate.now (parts ++ part.now ∷ [])) }
+{
+    if may_change(aggregate, total, part) {
+        join_part(aggregate, total, copy(alloc, part)?);
+    }
+    Ok(())
 }
 
 /// Appends what the parts of each aggregate give, of none.

@@ -9,6 +9,7 @@ mod joining;
 mod keys;
 mod sums;
 
+pub use columns::{add_part, empty_part};
 pub use counts::{Count, CountStar};
 pub use extremes::{Max, Min};
 pub use groups::GroupMerge;
