@@ -40,7 +40,7 @@ at_end (v ∷ row) zero h = absurd (omega (arith, h))
 at_end (v ∷ row) (suc n) h = at_end row n (omega (arith, h))
 
 -- the parts of columns that stand in a list after some place, joined
-joined_each : {X : Type 0} (aggregates : List (Item ℕ)) (n : ℕ) (f : X → Row) (g : X → Item ℕ → Value) (xs : List X) → ((x : X) → drop n (f x) ≡ map (g x) aggregates)
+pub joined_each : {X : Type 0} (aggregates : List (Item ℕ)) (n : ℕ) (f : X → Row) (g : X → Item ℕ → Value) (xs : List X) → ((x : X) → drop n (f x) ≡ map (g x) aggregates)
     → joined_parts aggregates n (map f xs) ≡ map (λ a. joined_part a (map (λ x. g x a) xs)) aggregates
 joined_each [] n f g xs h = refl
 joined_each (a ∷ aggregates) n f g xs h =
@@ -49,7 +49,7 @@ joined_each (a ∷ aggregates) n f g xs h =
     in
     λ i. joined_part a (here i) ∷ joined_each aggregates (n + 1) f g xs (λ x. drop_next (f x) (map (g x) aggregates) (g x a) n (h x)) i
 
-ones : (rows : List Row) → total (present (map (λ row. Int (pos 1)) rows)) ≡ pos (length rows)
+pub ones : (rows : List Row) → total (present (map (λ row. Int (pos 1)) rows)) ≡ pos (length rows)
 ones [] = refl
 ones (row ∷ rows) = ap (λ n. pos 1 +ℤ n) (ones rows) ∙ ap pos (omega arith)
 

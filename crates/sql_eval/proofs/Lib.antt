@@ -13,6 +13,7 @@ pub mod SameAnswers
 pub mod OrdinalLemmas
 pub mod Firsts
 pub mod Counted
+pub mod TotalLemmas
 pub mod LentRows
 pub mod Lent
 pub mod Members

@@ -100,7 +100,7 @@ one_small v = by (is_null v)
     by true = omega arith
     by false = omega arith
 
-part_small : (row : Row) → AllByRecursion IsSmall row → (a : Item ℕ) → IsSmall (row_part row a)
+pub part_small : (row : Row) → AllByRecursion IsSmall row → (a : Item ℕ) → IsSmall (row_part row a)
 part_small row all (Column c) = omega arith
 part_small row all CountRows = omega arith
 part_small row all (Count c) = one_small (value_at row c)

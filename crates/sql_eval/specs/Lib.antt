@@ -2,6 +2,7 @@ pub mod Conditions
 pub mod Groups
 pub mod Grouping
 pub mod Queries
+pub mod Counts
 pub mod KeyOrder
 pub mod Narrowing
 pub mod Pairs
@@ -9,6 +10,7 @@ pub mod Writes
 pub mod inner
 pub use Rattle.aggregate.specs.Groups as AggregateGroups
 pub use Rattle.aggregate.specs.Aggregates
+pub use Rattle.aggregate.specs.Orders
 pub use Rattle.aggregate.specs.inner.SumLemmas
 pub use Rattle.vschema.specs.declared.schema.VSchema
 pub use Rattle.vschema.specs.Schema

@@ -1,13 +1,17 @@
 //! What a query gives over the rows of one table. Groups, order and LIMIT each have a way of their own, so that no more rows are copied than are
 //! shown.
-ghost use Rattle.std.specs.Prelude.{◌≡◌, ◌≤◌, ◌^◌, ◌∷◌, [], IsTrue, length, pos, IfOk, IfSome, map, filter, true};
+ghost use Rattle.std.specs.Prelude.{◌≡◌, ◌≤◌, ◌^◌, ◌∷◌, [], List, IsTrue, IsSorted, length, pos, IfOk, IfSome, map, filter, true, false};
 ghost use Rattle.std.specs.List.{list_all};
+ghost use Rattle.vt_value.specs.Values.{Row as Line};
 ghost use Rattle.vschema.specs.Checks.{is_aggregated};
+ghost use Rattle.aggregate.specs.Orders.{row_cmp};
 ghost use Rattle.aggregate.specs.Slices.{columns_of};
 ghost use Rattle.sql_eval.specs.Conditions.{is_kept};
 ghost use Rattle.sql_eval.specs.Groups.{CanBeSummed};
 ghost use Rattle.sql_eval.specs.Grouping.{shown_ordinal, group_columns, group_order, IsSortedSlice};
-ghost use Rattle.sql_eval.specs.inner.Parts.{grouped_rows, is_count_rows, counted_row};
+ghost use Rattle.sql_eval.specs.Counts.{is_count_rows, CountsAll};
+ghost use Rattle.sql_eval.specs.inner.Parts.{grouped_rows, counted_row};
+ghost use Rattle.sql_eval.specs.inner.Totals.{totals_of};
 ghost use Rattle.sql_eval.specs.inner.Fronts.{IsWithin};
 ghost use Rattle.sql_eval.specs.Queries.{IsAnswer};
 
@@ -15,6 +19,7 @@ use crate::filters::Filter;
 use crate::groups::{Grouping, Parts, group_columns, group_order, shown_ordinal};
 use crate::ordered::{ordered, ordered_front};
 use crate::source::{RowSource, SliceRows, kept_count, shown};
+use crate::totals::totals;
 use aggregate::{Limit, Project, Rows, collect, project_row, shows_whole, sort_rows};
 use sql_tree::{Condition, Item, Key};
 use std::alloc::{AllocError, Global};
@@ -154,18 +159,34 @@ fn are_count_rows(aggregates: &[Item<usize>]) -> bool
     aggregates.iter().all(|aggregate| is_count_rows(aggregate))
 }
 
-// Whether COUNT(*) of all rows is all that is asked.
-fn counts_alone(columns: &[usize], aggregates: &[Item<usize>]) -> bool
-    ensures columns { IsTrue result → columns.now ≡ [] }
-    ensures aggregates { IsTrue result → list_all is_count_rows aggregates.now ≡ true }
+// Whether all rows are one group.
+fn are_together(columns: &[usize]) -> bool
+    ensures { IsTrue result → columns.now ≡ [] }
 {
-    columns.is_empty() && are_count_rows(aggregates)
+    columns.is_empty()
 }
 
 fn count_value(count: u64) -> Value
     ensures { result ≡ Value.Int (pos count) }
 {
     Value::Int(i128::from(count))
+}
+
+// One row: a count, for each of these aggregates.
+fn count_row(
+    alloc: Global,
+    aggregates: &[Item<usize>],
+    count: u64,
+) -> Result<Items<Row>, AllocError>
+    ensures ok { IfOk result (λ list. list ≡ counted_row aggregates.now count ∷ []) }
+{
+    let mut row = Items::new(alloc);
+    for _ in aggregates {
+        row.push(count_value(count))?;
+    }
+    let mut list = Items::new(alloc);
+    list.push(row)?;
+    Ok(list)
 }
 
 // The one row of the rows whose condition is true: their count, so many times.
@@ -180,12 +201,25 @@ fn counted<'a, S: RowSource<'a>>(
 {
     let filter = Filter::of(alloc, condition)?;
     let count = kept_count(&filter, rows);
-    let mut row = Items::new(alloc);
-    for _ in aggregates {
-        row.push(count_value(count))?;
+    count_row(alloc, aggregates, count)
+}
+
+// The one row of the rows whose condition is true.
+fn together<'a, S: RowSource<'a>>(
+    alloc: Global,
+    condition: &Option<Condition<usize>>,
+    rows: S,
+    aggregates: &[Item<usize>],
+) -> Result<Items<Row>, AllocError>
+    requires { CanBeSummed (filter (is_kept condition.now) (S.to_come rows)) }
+    ensures ok { IfOk result (λ list. list ≡ totals_of aggregates.now (filter (is_kept condition.now) (S.to_come rows)) ∷ []) }
+{
+    if are_count_rows(aggregates) {
+        return counted(alloc, condition, rows, aggregates);
     }
+    let filter = Filter::of(alloc, condition)?;
     let mut list = Items::new(alloc);
-    list.push(row)?;
+    list.push(totals(alloc, &filter, rows, aggregates)?)?;
     Ok(list)
 }
 
@@ -200,11 +234,20 @@ fn grouped<'a, S: RowSource<'a>>(
 {
     let grouping = Grouping::of(alloc, query)?;
     let aggregates = grouping.aggregates.as_slice();
-    if counts_alone(query.group_by.as_slice(), aggregates) {
-        return counted(alloc, &query.filter, rows, aggregates);
+    if are_together(query.group_by.as_slice()) {
+        return together(alloc, &query.filter, rows, aggregates);
     }
     let parts = Parts::of(alloc, query, rows)?;
     grouping.joined(alloc, parts)
+}
+
+// What is shown of the rows of a query's groups.
+fn show_groups(alloc: Global, query: &Query, groups: Items<Row>) -> Result<Items<Row>, AllocError>
+    ensures ok { IfOk result (IsSortedSlice (group_order query.now) query.now.limit (group_columns query.now) groups) }
+{
+    let keys = group_order(alloc, query)?;
+    let ordinals = group_columns(alloc, query)?;
+    show(alloc, groups, keys.as_slice(), query.limit, ordinals)
 }
 
 fn select_groups<'a, S: RowSource<'a>>(
@@ -216,14 +259,58 @@ fn select_groups<'a, S: RowSource<'a>>(
     ensures ok { IfOk result (IsSortedSlice (group_order query.now) query.now.limit (group_columns query.now) (grouped_rows query.now (filter (is_kept query.now.filter) (S.to_come rows)))) }
 {
     let groups = grouped(alloc, query, rows)?;
-    let keys = group_order(alloc, query)?;
-    let ordinals = group_columns(alloc, query)?;
-    show(alloc, groups, keys.as_slice(), query.limit, ordinals)
+    show_groups(alloc, query, groups)
+}
+
+/// Whether a query asks for nothing but the number of all rows.
+pub fn counts_all(query: &Query) -> bool
+    ensures { IsTrue result → CountsAll query.now }
+{
+    query.filter.is_none()
+        && are_together(query.group_by.as_slice())
+        && query.is_aggregated()
+        && are_count_rows(query.items.as_slice())
+}
+
+/// What a query that asks for nothing but the number of all rows gives over so many rows. Refuses only for want of memory.
+pub fn select_count(alloc: Global, query: &Query, count: usize) -> Result<Items<Row>, AllocError>
+    requires { CountsAll query.now }
+    ensures ok { IfOk result (λ list. (rows : List Line) → length rows ≡ count → IsAnswer query.now rows list) }
+{
+    let groups = count_row(alloc, query.items.as_slice(), count as u64)?;
+    show_groups(alloc, query, groups)
+}
+
+// What a query without aggregates gives over rows that are in its order.
+fn select_sorted<'a, S: RowSource<'a>>(
+    alloc: Global,
+    query: &'a Query,
+    rows: S,
+) -> Result<Items<Row>, AllocError>
+    requires { IsSorted (row_cmp query.now.order_by) (filter (is_kept query.now.filter) (S.to_come rows)) }
+    ensures ok { IfOk result (IsSortedSlice query.now.order_by query.now.limit (map shown_ordinal query.now.items) (filter (is_kept query.now.filter) (S.to_come rows))) }
+{
+    let filter = Filter::of(alloc, &query.filter)?;
+    shown(alloc, &filter, rows, query.limit, query.items.as_slice())
+}
+
+/// What a query without aggregates gives, as `select_from`, over rows that come in an order which its ORDER BY allows. No row is held, and none is asked for
+/// after the last that its LIMIT leaves. Refuses only for want of memory.
+pub fn select_in_order<'a, S: RowSource<'a>>(
+    alloc: Global,
+    query: &'a Query,
+    rows: S,
+) -> Result<Items<Row>, AllocError>
+    requires plain { is_aggregated query.now ≡ false }
+    requires sorted { IsSorted (row_cmp query.now.order_by) (filter (is_kept query.now.filter) (S.to_come rows)) }
+    ensures ok { IfOk result (IsAnswer query.now (S.to_come rows)) }
+{
+    select_sorted(alloc, query, rows)
 }
 
 // Promise: What a query gives over the rows that it is lent is one of its answers: rows, or a row for each group with exact aggregates, in
 // an order that its ORDER BY allows, and of these the slice of its LIMIT
-// With: select_local, show, next_kept, all_kept
+// With: select_in_order, select_count, select_local, show, next_kept, all_kept
 /// What a query gives over the rows of its table that a source lends: those whose condition is true, each by the columns that the
 /// query shows, or, of an aggregated query, their groups; in an order that its ORDER BY allows, and of these what its LIMIT leaves. No
 /// row is copied that doesn't go out. Refuses only for want of memory.

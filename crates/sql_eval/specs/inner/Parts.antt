@@ -1,5 +1,5 @@
 -- Each row as a part of its group, and the groups that such parts make up.
-use Rattle.std.specs.Prelude.{ℕ, Bool, true, false, pos, List, ◌++◌, map, if◌then◌else◌}
+use Rattle.std.specs.Prelude.{ℕ, pos, List, ◌++◌, map, if◌then◌else◌}
 use Rattle.vt_value.specs.declared.value.Value.{Value}
 use Rattle.vt_value.specs.declared.value.Value.TheVariants.{Null, Int}
 use Rattle.vt_value.specs.Values.{Row, value_at, is_null}
@@ -29,10 +29,6 @@ part_row columns aggregates row = columns_of columns row ++ map (row_part row) a
 -- the rows of the groups of these rows
 abbrev pub grouped_rows : Query → List Row → List Row
 grouped_rows q rows = grouped (grouping_of q) (map (part_row q.group_by (aggregates_of q.items)) rows)
-
-abbrev pub is_count_rows : Item ℕ → Bool
-is_count_rows CountRows = true
-is_count_rows _ = false
 
 -- the one group of so many rows, of which nothing but COUNT(*) is asked
 abbrev pub counted_row : List (Item ℕ) → ℕ → Row
