@@ -8,3 +8,4 @@ pub mod Moving
 pub mod Permuted
 pub mod Prepares
 pub use Rattle.follow.proofs.Moves
+pub use Rattle.follow.proofs.Turns

@@ -93,6 +93,12 @@ pub unmapped : {X Y : Type 0} (P : Y → Type 0) (f : X → Y) (xs : List X) →
 unmapped P f [] all = tt
 unmapped P f (x ∷ xs) all = (all.0, unmapped P f xs all.1)
 
+-- what is full is this target
+pub full_of : (o : Opening) (most : Limits) (t : ShardRecord) (now : PassView Entry) (e : Refusal) → (e ≡ OutOfMemory) ⊎ ((e ≡ ShardFull) × IsFull o most t now.seen)
+    → e ≡ ShardFull → IsFull o most t now.seen
+full_of o most t now e (inl h) is = absurd (cc (sym h ∙ is))
+full_of o most t now e (inr h) is = h.1
+
 pub move_refusal : (o : Opening) (most : Limits) (targets : List TargetWithSources) (i : ℕ) (t : TargetWithSources) → i < length targets → t ≡ get_or targets i t → (now : PassView Entry) (e : Refusal)
     → (e ≡ OutOfMemory) ⊎ ((e ≡ ShardFull) × IsFull o most t.0 now.seen) → IsMoveRefusal o most targets now (Refused e)
 move_refusal o most targets i t there is now e (inl h) = subst (λ (x : Refusal). IsMoveRefusal o most targets now (Refused x)) (sym h) firstmoves_of.no_memory

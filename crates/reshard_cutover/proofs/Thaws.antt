@@ -2,6 +2,7 @@
 use Rattle.std.proofs.Common.{◌≡◌, ℕ, ◌+◌, ◌<◌, ◌≤◌, List, [], ◌∷◌, ◌++◌, length, map, take, get_or, refl, sym, ap, ◌∙◌, subst, true}
 use Rattle.std.specs.List.{AllByRecursion}
 use Rattle.std.proofs.lemmas.Bool.{eq-eqb}
+use Rattle.std.proofs.lemmas.List.{take_more, map-append}
 use Rattle.journal.specs.Views.{PassView}
 use Rattle.journal.proofs.Fronts.{prefix_trans, prefix_self}
 use Rattle.shard_run.specs.declared.ShardRecord.{ShardRecord}
@@ -98,6 +99,25 @@ looked_on slot p q now first more = record {
   alone = both_alone slot first.looks more.looks first.alone more.alone;
   looked = looked_then first.looks more.looks p q now first.looked more.looked;
 }
+
+-- a look at each so far, and at one more
+module _ {S : Type 0} (slot : S → ℕ) (shards : List S) (n : ℕ) (s : S) (there : n < length shards) (is : s ≡ get_or shards n s) (p q now : PassView Entry) where
+  pub look_next : HasLookedAt (map slot (take n shards)) p q → HasLookedAt (slot s ∷ []) q now → HasLookedAt (map slot (take (n + 1) shards)) p now
+  look_next before at =
+      subst (λ (l : List S). HasLookedAt (map slot l) p now) (sym (take_more shards n s there ∙ ap (λ (x : S). take n shards ++ x ∷ []) (sym is)))
+      (subst (λ (l : List ℕ). HasLookedAt l p now) (sym (map-append slot (take n shards) (s ∷ [])))
+      (looked_then (map slot (take n shards)) (slot s ∷ []) p q now before at))
+
+-- of the shards of such
+module _ {S X : Type 0} (which : S → X) (slot : X → ℕ) (shards : List S) (n : ℕ) (s : S) (there : n < length shards) (is : s ≡ get_or shards n s)
+    (p q now : PassView Entry) where
+  pub look_next_of : HasLookedAt (map slot (map which (take n shards))) p q → HasLookedAt (slot (which s) ∷ []) q now
+      → HasLookedAt (map slot (map which (take (n + 1) shards))) p now
+  look_next_of before at =
+      subst (λ (l : List S). HasLookedAt (map slot (map which l)) p now) (sym (take_more shards n s there ∙ ap (λ (x : S). take n shards ++ x ∷ []) (sym is)))
+      (subst (λ (l : List X). HasLookedAt (map slot l) p now) (sym (map-append which (take n shards) (s ∷ [])))
+      (subst (λ (l : List ℕ). HasLookedAt l p now) (sym (map-append slot (map which (take n shards)) (which s ∷ [])))
+      (looked_then (map slot (map which (take n shards))) (slot (which s) ∷ []) p q now before at)))
 
 -- a change of mode looks there alone
 pub change_alone : (o : Opening) (slot : ℕ) (v : ShardView) (ev : Event) (p now : PassView Entry) → v.shard.slot ≡ slot → HasChangedMode o v ev p now

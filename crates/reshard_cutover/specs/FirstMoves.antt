@@ -28,6 +28,11 @@ IsOneStepFirst targets p now step = FirstInTurn (λ t. IsOneStepWith t.1 t.0) ta
 abbrev pub IsNoStepFirst : List TargetWithSources → PassView Entry → PassView Entry → Type 0
 IsNoStepFirst targets p now = RefusedInTurn (λ t. IsOneStepWith t.1 t.0) (λ t. IsNoStepWith t.1 t.0) targets p now
 
+-- a step of the first of the targets that isn't level would pass a limit of it, if it came next, so it is refused
+abbrev pub IsFullFirst : Opening → Limits → List TargetWithSources → PassView Entry → PassView Entry → Type 0
+IsFullFirst o most targets p now =
+    RefusedInTurn (λ t. IsOneStepWith t.1 t.0) (λ t p q. IsNoStepWith t.1 t.0 p q × IsFull o most t.0 q.seen) targets p now
+
 -- why no target moves: want of memory, or a step of one of them that may come next passes a limit of it
 pub data IsMoveRefusal (o : Opening) (most : Limits) (targets : List TargetWithSources) (now : PassView Entry) : ReshardFault → Type 0 where
   no_memory : IsMoveRefusal o most targets now (Refused OutOfMemory)

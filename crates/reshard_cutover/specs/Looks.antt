@@ -1,5 +1,5 @@
 -- What looks at the shards of a cutover show, at a run that the controller's pass came by.
-use Rattle.std.specs.Prelude.{◌≡◌, ℕ, ◌<◌, ◌≤◌, List, [], ◌∷◌}
+use Rattle.std.specs.Prelude.{◌≡◌, ℕ, ◌<◌, ◌≤◌, List, [], ◌∷◌, ◌++◌, map}
 use Rattle.std.specs.List.{AllByRecursion}
 use Rattle.journal.specs.Views.{PassView}
 use Rattle.shard_run.specs.declared.ShardRecord.{ShardRecord}
@@ -58,6 +58,10 @@ HaveServed run targets = AllByRecursion (λ t. HasBegunToServe run t.0) targets
 pub record IsCutOver (run : Run) (sources : List ShardRecord) (targets : List TargetWithSources) : Type 0 where
   pub gone : AllByRecursion (IsGone run) sources
   pub served : HaveServed run targets
+
+-- the slots of sources, and then those of targets
+abbrev pub slots_of_both : List ShardRecord → List TargetWithSources → List ℕ
+slots_of_both sources targets = map (λ s. s.slot) sources ++ map (λ t. t.0.slot) targets
 
 -- at a run that the pass came by a target had more rows than a shard that serves may have
 pub record IsOverfull (o : Opening) (most : Limits) (t : ShardRecord) (p now : PassView Entry) : Type 0 where

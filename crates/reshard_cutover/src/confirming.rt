@@ -1,13 +1,14 @@
 //! What earlier calls did is looked at again under the locks: which sources are retired, and which targets serve.
-ghost use Rattle.std.specs.Prelude.{List, Contains, IsTrue, map};
+ghost use Rattle.std.specs.Prelude.{List, [], ◌∷◌, Contains, IsTrue, map};
 ghost use Rattle.std.specs.List.{AllByRecursion};
 ghost use Rattle.journal.specs.Runs.{IsLegal};
 ghost use Rattle.shard_run.specs.Openings.{IsOpening};
 ghost use Rattle.shard_contents.specs.Entries.{MayFollow};
 ghost use Rattle.follow.specs.Steps.{IsOnward};
-ghost use Rattle.follow.specs.Turns.{EachInTurn};
+ghost use Rattle.follow.specs.Turns.{EachInTurn, HasLookedAt};
+ghost use Rattle.reshard_cutover.specs.TargetSources.{TargetWithSources};
 ghost use Rattle.reshard_cutover.specs.Steps.{has_source, IsRetired, AreRetired};
-ghost use Rattle.reshard_cutover.specs.Looks.{HasLookedOnlyAt, IsGone, HasBegunToServe, HaveServed, IsCutOver};
+ghost use Rattle.reshard_cutover.specs.Looks.{HasLookedOnlyAt, IsGone, HasBegunToServe, HaveServed, IsCutOver, slots_of_both};
 
 use crate::steps::{SourceShard, is_source_of, serves};
 use crate::target::TargetShard;
@@ -78,6 +79,7 @@ fn confirm_gone<W: World, J: Naming>(
 )
     requires legal { IsLegal (MayFollow W.opening) pass.old.seen }
     ensures gone { IsGone pass.new.seen member.now.which }
+    ensures looked { HasLookedAt (member.now.which.slot ∷ []) pass.old pass.new }
     ensures onward { IsOnward W.opening pass.old pass.new }
 {
     let mut state = member
@@ -96,6 +98,7 @@ fn confirm_served<W: World, J: Naming>(
     requires opens { IsOpening W.opening }
     requires legal { IsLegal (MayFollow W.opening) pass.old.seen }
     ensures served { HasBegunToServe pass.new.seen member.now.which }
+    ensures looked { HasLookedAt (member.now.which.slot ∷ []) pass.old pass.new }
     ensures onward { IsOnward W.opening pass.old pass.new }
 {
     let which = &member.which;
@@ -112,6 +115,7 @@ fn all_gone<W: World, J: Naming>(
 )
     requires legal { IsLegal (MayFollow W.opening) pass.old.seen }
     ensures gone { AllByRecursion (IsGone pass.new.seen) (map (λ s. s.member.which) sources.now) }
+    ensures looked { HasLookedAt (map (λ s. s.slot) (map (λ s. s.member.which) sources.now)) pass.old pass.new }
     ensures onward { IsOnward W.opening pass.old pass.new }
 {
     for source in sources {
@@ -127,6 +131,7 @@ fn all_served<W: World, J: Naming>(
     requires opens { IsOpening W.opening }
     requires legal { IsLegal (MayFollow W.opening) pass.old.seen }
     ensures served { HaveServed pass.new.seen (map (λ t. (t.member.which, map (λ s. s.which) t.sources.items)) targets.now) }
+    ensures looked { HasLookedAt (map (λ t. t.0.slot) (map {B = TargetWithSources} (λ t. (t.member.which, map (λ s. s.which) t.sources.items)) targets.now)) pass.old pass.new }
     ensures onward { IsOnward W.opening pass.old pass.new }
 {
     for target in targets {
@@ -134,7 +139,7 @@ fn all_served<W: World, J: Naming>(
     }
 }
 
-/// Looks until each source is retired and each target serves. Takes no memory.
+/// Looks once at each source, when it is retired, and then once at each target, when it serves. Takes no memory.
 pub fn confirm_cutover<W: World, J: Naming>(
     rt: &impl Wait,
     sources: &[SourceShard<W, J>],
@@ -143,6 +148,7 @@ pub fn confirm_cutover<W: World, J: Naming>(
 )
     requires opens { IsOpening W.opening }
     requires legal { IsLegal (MayFollow W.opening) pass.old.seen }
+    ensures looked { HasLookedAt (slots_of_both (map (λ s. s.member.which) sources.now) (map (λ t. (t.member.which, map (λ s. s.which) t.sources.items)) targets.now)) pass.old pass.new }
     ensures through { IsCutOver pass.new.seen (map (λ s. s.member.which) sources.now) (map (λ t. (t.member.which, map (λ s. s.which) t.sources.items)) targets.now) }
     ensures onward { IsOnward W.opening pass.old pass.new }
 {

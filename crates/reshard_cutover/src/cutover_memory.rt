@@ -76,7 +76,7 @@ fn next_parts<W: World, J: Naming>(
     Ok(parts)
 }
 
-/// The next partition of the keyspace.
+/// The next partition of the keyspace: the parts that stay, and those of the targets.
 pub fn next_partition<W: World, J: Naming>(
     alloc: Global,
     keyspace: usize,
@@ -86,6 +86,7 @@ pub fn next_partition<W: World, J: Naming>(
     requires next { IsPartition (rest.now ++ map (λ t. t.member.shard.value) targets.now) }
     requires home { AreOf keyspace (rest.now ++ map (λ t. t.member.shard.value) targets.now) }
     ensures next { IfOk result (λ partition. AreOf keyspace partition.value) }
+    ensures parts { IfOk result (λ partition. IsPermutation (rest.now ++ map (λ t. t.member.shard.value) targets.now) partition.value) }
 {
     let parts = next_parts(alloc, rest, targets)?;
     Ok(Box::new(alloc, Partition::new(keyspace, parts))?)

@@ -1,10 +1,11 @@
 //! Sources that are retired give up their rows.
-ghost use Rattle.std.specs.Prelude.{◌≡◌, true, map};
+ghost use Rattle.std.specs.Prelude.{◌≡◌, ◌∷◌, [], true, map};
 ghost use Rattle.std.specs.List.{AllByRecursion};
 ghost use Rattle.journal.specs.Runs.{IsLegal};
 ghost use Rattle.shard_run.specs.Runs.{mode};
 ghost use Rattle.shard_contents.specs.Entries.{MayFollow};
 ghost use Rattle.follow.specs.Steps.{IsOnward};
+ghost use Rattle.follow.specs.Turns.{HasLookedAt};
 ghost use Rattle.reshard_cutover.specs.Looks.{IsOutOfUse};
 
 use crate::steps::SourceShard;
@@ -32,6 +33,7 @@ fn drop_rows<W: World, J: Naming>(
 )
     requires legal { IsLegal (MayFollow W.opening) pass.old.seen }
     ensures out { mode W.opening pass.new.seen member.now.which.slot ≡ Mode.Retired }
+    ensures looked { HasLookedAt (member.now.which.slot ∷ []) pass.old pass.new }
     ensures onward { IsOnward W.opening pass.old pass.new }
 {
     let mut state = member.shard.state().lock_when(
@@ -50,6 +52,7 @@ pub fn drop_all<W: World, J: Naming>(
 )
     requires legal { IsLegal (MayFollow W.opening) pass.old.seen }
     ensures out { AllByRecursion (λ s. IsOutOfUse W.opening s pass.old pass.new) (map (λ s. s.member.which) sources.now) }
+    ensures looked { HasLookedAt (map (λ s. s.slot) (map (λ s. s.member.which) sources.now)) pass.old pass.new }
     ensures onward { IsOnward W.opening pass.old pass.new }
 {
     for source in sources {

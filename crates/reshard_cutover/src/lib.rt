@@ -21,6 +21,6 @@ pub use fitting::all_fit;
 pub use follow::{Step, WorkflowShard};
 pub use next_move::move_first;
 pub use steps::{SourceShard, freeze, is_source_of, retire, serve, serves, thaw};
-pub use stored::{note_retired, note_stored};
+pub use stored::{entries_left, note_retired, note_stored};
 pub use target::TargetShard;
 pub use thawing::unfreeze_all;

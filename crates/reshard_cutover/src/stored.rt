@@ -1,9 +1,9 @@
-//! How many entries a source has stored that is frozen, or retired already.
+//! How many entries a source has stored that is frozen, or retired already, and how many are left for a target to follow.
 ghost use Rattle.std.specs.Prelude.{◌≡◌, ◌<◌, length, map, slice_set};
 
 use crate::steps::{SourceShard, is_source_of};
 use crate::target::TargetShard;
-use follow::{ShardState, World};
+use follow::{ShardState, WorkflowShard, World};
 use journal::Naming;
 use shard_run::Mode;
 use std::sync::Wait;
@@ -18,19 +18,19 @@ pub fn note_stored<W: World, J: Naming>(sources: &mut [SourceShard<W, J>], at: u
     sources[at].stored = stored;
 }
 
-// How many of the source's entries the target stands after, if it lives.
-fn after_in<W: World, J: Naming>(state: &ShardState<W, J>, slot: usize) -> u64 {
+// After how many of the source's entries the target stands, if it lives and has copied from there.
+fn after_in<W: World, J: Naming>(state: &ShardState<W, J>, slot: usize) -> Option<u64> {
     let lives = match state.mode() {
         Mode::Following => true,
         Mode::Serving => true,
         _ => false,
     };
     if !lives {
-        return 0;
+        return None;
     }
     match state.position_in(slot) {
-        Some(stands_after) => u64::try_from(stands_after).unwrap_or(0),
-        None => 0,
+        Some(stands_after) => Some(u64::try_from(stands_after).unwrap_or(0)),
+        None => None,
     }
 }
 
@@ -42,10 +42,41 @@ fn stored_by<W: World, J: Naming>(
 ) -> u64 {
     for target in targets {
         if is_source_of(&target.member.which, slot) {
-            return after_in(&target.member.shard.lock(rt), slot);
+            return after_in(&target.member.shard.lock(rt), slot).unwrap_or(0);
         }
     }
     0
+}
+
+// How many entries a source has stored, unless it is retired.
+fn stored_in<W: World, J: Naming>(state: &ShardState<W, J>) -> u64 {
+    match state.mode() {
+        Mode::Serving => state.stored(),
+        Mode::Frozen => state.stored(),
+        _ => 0,
+    }
+}
+
+// How many of a source's entries the target is yet to follow. Before its first rows of there it has none to follow.
+fn left_of<W: World, J: Naming>(
+    rt: &impl Wait,
+    source: &WorkflowShard<W, J>,
+    target: &WorkflowShard<W, J>,
+) -> u64 {
+    let after = after_in(&target.shard.lock(rt), source.which.slot);
+    match after {
+        Some(after) => stored_in(&source.shard.lock(rt)).saturating_sub(after),
+        None => 0,
+    }
+}
+
+/// How many entries of its sources a target is yet to follow. Each lock is held by itself, so more may be stored meanwhile.
+pub fn entries_left<W: World, J: Naming>(rt: &impl Wait, target: &TargetShard<W, J>) -> u64 {
+    let mut left = 0u64;
+    for source in target.sources.as_slice() {
+        left = left.saturating_add(left_of(rt, source, &target.member));
+    }
+    left
 }
 
 /// Notes how many entries the retired ones, which are the first, have stored.

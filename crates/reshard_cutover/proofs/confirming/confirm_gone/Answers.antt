@@ -5,6 +5,7 @@ use Rattle.shard_run.specs.declared.Event.TheVariants.{Retire}
 use Rattle.shard_run.specs.Runs.{Run}
 use Rattle.follow.proofs.LockedLooks.{LookedAs, looked_as}
 use Rattle.follow.specs.Steps.{IsOnward}
+use Rattle.follow.proofs.Turns.{looked_at}
 use Rattle.reshard_cutover.specs.Steps.{HasEntry}
 use Rattle.reshard_cutover.proofs.Onward.{looked_first, entry_later}
 use Rattle.reshard_cutover.proofs.confirming.confirm_gone.Goals as goal
@@ -33,3 +34,6 @@ returns-clause-gone g c =
 
 pub returns-clause-onward : goal.returns-clause-onward
 returns-clause-onward g c = on g c
+
+pub returns-clause-looked : goal.returns-clause-looked
+returns-clause-looked g c = looked_at c.args.pass.now c.look.new.pass c.args.member.now.which.slot _ _ (seen g c).pass

@@ -7,6 +7,7 @@ use Rattle.shard_contents.specs.Entries.{ShardView}
 use Rattle.shard_contents.proofs.Legality.{legal_is}
 use Rattle.follow.proofs.LockedLooks.{LookedAs, looked_as, mode_stays}
 use Rattle.follow.specs.Steps.{IsOnward}
+use Rattle.follow.proofs.Turns.{looked_at}
 use Rattle.reshard_cutover.specs.Looks.{HasBegunToServe}
 use Rattle.reshard_cutover.proofs.Onward.{looked_first}
 use Rattle.reshard_cutover.proofs.Served.{has_served}
@@ -40,3 +41,6 @@ returns-clause-served g c =
 
 pub returns-clause-onward : goal.returns-clause-onward
 returns-clause-onward g c = on g c
+
+pub returns-clause-looked : goal.returns-clause-looked
+returns-clause-looked g c = looked_at c.args.pass.now c.look.new.pass c.args.member.now.which.slot _ _ (seen g c).pass

@@ -5,6 +5,7 @@ use Rattle.shard_run.specs.Runs.{mode}
 use Rattle.shard_contents.specs.Entries.{ShardView}
 use Rattle.follow.proofs.LockedLooks.{LookedAs, looked_as, mode_here, mode_seen}
 use Rattle.follow.specs.Steps.{IsOnward}
+use Rattle.follow.proofs.Turns.{looked_at}
 use Rattle.reshard_cutover.proofs.Onward.{looked_first}
 use Rattle.reshard_cutover.proofs.dropping.drop_rows.Goals as goal
 use Rattle.reshard_cutover.proofs.dropping.drop_rows.Goals.{After-deref_mut-2}
@@ -37,3 +38,8 @@ pub returns-clause-onward : goal.returns-clause-onward
 returns-clause-onward g c =
     let b = (goal.at.returns-clause-onward g c).After-deref_mut-2 in
     on g b
+
+pub returns-clause-looked : goal.returns-clause-looked
+returns-clause-looked g c =
+    let b = (goal.at.returns-clause-looked g c).After-deref_mut-2 in
+    looked_at c.args.pass.now c.look.new.pass c.args.member.now.which.slot _ _ (seen g b).pass

@@ -4,7 +4,7 @@ use Rattle.std.specs.List.{AllByRecursion}
 use Rattle.shard_run.specs.declared.ShardRecord.{ShardRecord}
 use Rattle.follow.specs.declared.steps.Step.{Step}
 use Rattle.follow.specs.declared.steps.Step.TheVariants.{Level}
-use Rattle.follow.specs.Steps.{HasMovedWith}
+use Rattle.follow.specs.Steps.{HasMovedWith, IsFull}
 use Rattle.reshard_cutover.specs.TargetSources.{TargetWithSources}
 use Rattle.follow.specs.Turns.{IsOneStepWith, IsNoStepWith}
 use Rattle.follow.specs.Turns as turns
@@ -12,7 +12,7 @@ use Rattle.follow.proofs.Turns.{one_more_turn, moves_in_turn, refused_in_turn, a
 use Rattle.reshard_cutover.proofs.Onward.{still, onward_trans}
 use Rattle.reshard_cutover.proofs.Retiring.{item_of, map_at}
 use Rattle.reshard_cutover.proofs.Residual.{residual_same}
-use Rattle.reshard_cutover.proofs.Moving.{first_moved, level_next, all_moved, unmapped, move_refusal}
+use Rattle.reshard_cutover.proofs.Moving.{first_moved, level_next, all_moved, unmapped, move_refusal, full_of}
 use Rattle.reshard_cutover.proofs.next_move.move_first.Goals as goal
 
 pub bring_forward_with-requires-clause-of_source : goal.bring_forward_with-requires-clause-of_source
@@ -101,3 +101,17 @@ returns-in_err-step-clause-nothing g c =
     (subst (λ l. IsNoStepWith (map (λ s. s.which) l) t.member.which c.loop-target.pass c.bring_forward_with.new.pass) c.as_slice.ensures.value
     c.in_err-step.ensures.nothing) in
     search (rules, none)
+
+pub returns-in_err-step-clause-full : goal.returns-in_err-step-clause-full
+returns-in_err-step-clause-full g c =
+    let o = g.W.World.opening in
+    let most = g.W.World.limits in
+    let t = c.target-item.result in
+    residual_same c.from_residual.result c.in_err-step.field-0.0 _ c.from_residual.ensures.1
+    (λ is. refused_in_turn (λ t. (t.member.which, map (λ s. s.which) t.sources.items)) c.args.targets.now c.loop-target.target-index t c.loop-target-test.true
+    c.target-item.is (λ (t : TargetWithSources). IsOneStepWith t.1 t.0) (λ (t : TargetWithSources) p q. IsNoStepWith t.1 t.0 p q × IsFull o most t.0 q.seen)
+    c.args.pass.now c.loop-target.pass c.bring_forward_with.new.pass c.loop-target.invariant.once (
+      subst (λ l. IsNoStepWith (map (λ s. s.which) l) t.member.which c.loop-target.pass c.bring_forward_with.new.pass) c.as_slice.ensures.value
+          c.in_err-step.ensures.nothing,
+      full_of o most t.member.which c.bring_forward_with.new.pass c.in_err-step.field-0.0 c.in_err-step.ensures.err is,
+    ))
