@@ -1,6 +1,7 @@
 //! One step: a look at the target, then one at the source, then, if something is left, an entry of the target. The target's lock is held for
 //! the whole step, and the source's for the look at it, so that the target is as it was when the entry comes. Locks are taken in this order
-//! alone, target before source, and a target never is a source of its own sources, so no two steps wait for each other.
+//! alone, target before source, and a target never is a source of its own sources, so no two steps wait for each other. A table that the source
+//! stores in another order than that of its primary key is put in order before the look at the source, some rows at a time.
 ghost use Rattle.std.specs.Prelude.{◌≡◌, ◌⊎◌, ◌<◌, ◌≤◌, ◌^◌, true, Some, IsTrue, IfOk, IfErr, IfSome, OnOk, OnErr, MatchOption, Contains, map};
 ghost use Rattle.std.specs.List.{AllByRecursion};
 ghost use Rattle.shard.specs.WellFormed.{is_vschema};
@@ -24,6 +25,9 @@ use shard_run::{Copied, Follow, Mode};
 use std::alloc::{AllocError, Global};
 use std::sync::Wait;
 use vt_value::Refusal;
+
+// How often a source has some more rows put in order before a step: enough for a table of 2^20 rows, and as many entries meanwhile.
+const MOST_GOES: usize = 1 << 15;
 
 /// What a target did.
 #[derive(Clone, Copy, Debug, PartialEq, Eq)]
@@ -95,6 +99,81 @@ fn next_for<W: World, J: Naming>(
         }
         None => Ok(NextEntry::Nothing),
     }
+}
+
+// Whether the source has an entry left for a target that stands after so many.
+fn has_entry<W: World, J: Naming>(state: &ShardState<W, J>, stands_after: Option<u128>) -> bool
+    requires lives { mode W.opening state.now.seen state.now.shard.slot ≡ Mode.Retired → ⊥ }
+{
+    match stands_after {
+        Some(stands_after) => stands_after < u128::from(state.stored()),
+        None => false,
+    }
+}
+
+// Has a source that serves put some more rows in order of the table that the target copies next, unless an entry is left. Answers whether more
+// are left.
+fn sort_for<W: World, J: Naming>(
+    state: &mut ShardState<W, J>,
+    alloc: Global,
+    schema: &VSchema,
+    target: &ShardState<W, J>,
+) -> Result<bool, AllocError>
+    requires schema { schema.now ≡ W.opening.schema }
+    requires serves { answers_queries (mode W.opening state.old.seen state.old.shard.slot) ≡ true }
+    requires follows { mode W.opening target.now.seen target.now.shard.slot ≡ Mode.Following }
+{
+    let source = state.slot();
+    if has_entry(state, target.position_in(source)) {
+        return Ok(false);
+    }
+    match target.next_table(schema, source) {
+        Some(table) => state.sort_some(alloc, schema, table),
+        None => Ok(false),
+    }
+}
+
+// That under the source's lock. It is no look: the pass learns nothing of it. A table that is done is dropped once the lock is free.
+fn sort_next<W: World, J: Naming>(
+    rt: &impl Wait,
+    alloc: Global,
+    schema: &VSchema,
+    source: &WorkflowShard<W, J>,
+    target: &ShardState<W, J>,
+) -> Result<bool, AllocError>
+    requires schema { schema.now ≡ W.opening.schema }
+    requires follows { mode W.opening target.now.seen target.now.shard.slot ≡ Mode.Following }
+{
+    let mut state = source
+        .shard
+        .state()
+        .lock_when(rt, |state| state.is(&source.which) && answers(state));
+    let done = state.take_done();
+    let more = sort_for(&mut state, alloc, schema, target);
+    drop(state);
+    drop(done);
+    more
+}
+
+// Has the source put the rows in order that the target copies next. Between two goes its lock is free, so that who asks the source meanwhile
+// waits for a go at most, or for the two that it takes to be let in first. The goes are bounded, for a source whose entries come faster than
+// they are taken into the order: what is left then the step does.
+fn sort_ahead<W: World, J: Naming>(
+    rt: &impl Wait,
+    alloc: Global,
+    schema: &VSchema,
+    source: &WorkflowShard<W, J>,
+    target: &ShardState<W, J>,
+) -> Result<(), AllocError>
+    requires schema { schema.now ≡ W.opening.schema }
+    requires follows { mode W.opening target.now.seen target.now.shard.slot ≡ Mode.Following }
+{
+    for _ in 0..MOST_GOES {
+        if !sort_next(rt, alloc, schema, source, target)? {
+            return Ok(());
+        }
+    }
+    Ok(())
 }
 
 // What the source gives at a look under its lock, once it serves.
@@ -222,6 +301,7 @@ fn come_forward<W: World, J: Naming>(
     ensures err { IfErr result (λ e. (e ≡ Refusal.OutOfMemory) ⊎ ((e ≡ Refusal.ShardFull) × IsFull W.opening W.limits state.old.shard pass.new.seen)) }
 {
     let _ = state.look(pass);
+    sort_ahead(rt, alloc, schema, source, state)?;
     let given = next_from(rt, alloc, pass, schema, source, state)?;
     take(state, alloc, pass, schema, given)
 }

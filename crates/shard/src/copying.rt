@@ -22,8 +22,8 @@ use crate::state::ShardState;
 use crate::world::{ShardPass, World};
 use journal::Naming;
 use shard_contents::{
-    NextTable, SourceProgress, TargetStep, changed_row, changed_table, copied, copy_change,
-    first_named, is_reached, restricted_changes,
+    NextTable, SortedTable, SourceProgress, TargetStep, changed_row, changed_table, copied,
+    copy_change, first_named, is_reached, restricted_changes,
 };
 use shard_run::{Copied, Entry, Follow, Mode};
 use std::alloc::{AllocError, Global};
@@ -285,9 +285,9 @@ impl<W: World, J: Naming> ShardState<W, J> {
     }
 
     /// The next rows of a table for a target, as a shard that serves has them: of those that lie in the target's place after the last row
-    /// there, the first 100 by primary key. A table that isn't stored in the order of its primary key is sorted at its first step, which
-    /// takes as long as that, and kept in that order until its last. From then on the shard keeps what its entries change. Refuses for want
-    /// of memory.
+    /// there, the first 100 by primary key. A table that isn't stored in the order of its primary key is kept in that order until its last
+    /// step; what `sort_some` hasn't sorted of it is sorted now, which takes as long as that. From then on the shard keeps what its entries
+    /// change. Refuses for want of memory.
     pub fn rows_to_copy(
         &mut self,
         alloc: Global,
@@ -317,6 +317,40 @@ impl<W: World, J: Naming> ShardState<W, J> {
             log_position: stored,
             rows: Items::from_vec(rows),
         })
+    }
+
+    /// Puts some more rows of a table in the order of its primary key, or brings them forward by some of the entries that came since, if the table
+    /// isn't stored in that order. Answers whether more is left to do until `rows_to_copy` has all in order. From then on the shard keeps
+    /// what its entries change. Takes no longer than a step that copies, but for an entry that changes many rows. Refuses for want of memory.
+    pub fn sort_some(
+        &mut self,
+        alloc: Global,
+        schema: &VSchema,
+        table: usize,
+    ) -> Result<bool, AllocError>
+        requires schema { schema.now ≡ W.opening.schema }
+        requires serves { answers_queries (mode W.opening self.old.seen self.old.shard.slot) ≡ true }
+        requires there { table < length schema.now.tables }
+        ensures unchanged { self.new ≡ self.old }
+    {
+        let declared = &schema.tables.as_slice()[table];
+        let contents = &mut self.contents;
+        contents.stored.follow();
+        self.sorted.sort_some(
+            alloc,
+            &mut contents.store,
+            &contents.stored,
+            table,
+            declared,
+        )
+    }
+
+    /// Hands out a table that it had in order, if all of its rows were copied: its drop takes time in its rows, so it is for after the lock. Takes
+    /// no memory.
+    pub fn take_done(&mut self) -> Option<SortedTable>
+        ensures { self.new ≡ self.old }
+    {
+        self.sorted.take_done()
     }
 
     /// Drops the tables that it keeps in order for targets, as when these are given up. Takes no memory.

@@ -25,6 +25,7 @@ pub mod OneTable
 pub mod Wanted
 pub mod SourceRows
 pub mod Earlier
+pub mod RowsLeft
 pub use Rattle.shard_store.proofs.stored.StoredTables.TheSendSync as StoredtablesTheSendSync
 pub use Rattle.shard_law.proofs.Lists
 pub use Rattle.shard_law.proofs.Law

@@ -1,11 +1,14 @@
 //! What a shard keeps of an entry that it has stored.
-ghost use Rattle.std.specs.Prelude.{◌≡◌, IfOk};
+ghost use Rattle.std.specs.Prelude.{◌≡◌, ◌≤◌, IfOk, length};
 
 use shard_store::SharedChange;
 use std::alloc::{AllocError, Global};
 use std::marker::Model;
 use std::slice;
 use vschema::RowChange;
+
+// A table is brought forward by some entries at a time: until they changed so many rows.
+const MOST_CHANGES: usize = 64;
 
 // Most entries change one row, and take no memory for a list.
 #[derive(Drop)]
@@ -74,4 +77,18 @@ impl KeptEntry {
             Changes::Many(changes) => changes.as_slice(),
         }
     }
+}
+
+// How many of the first entries together change a few rows, or how many there are.
+pub(crate) fn few_entries(entries: &[KeptEntry]) -> usize
+    ensures { result ≤ length entries.now }
+{
+    let mut changes = 0usize;
+    for at in 0..entries.len() {
+        if changes >= MOST_CHANGES {
+            return at;
+        }
+        changes = changes.saturating_add(entries[at].changes().len());
+    }
+    entries.len()
 }

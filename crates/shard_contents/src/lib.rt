@@ -9,6 +9,7 @@ mod next_rows;
 mod outcomes;
 mod pending;
 mod preparing;
+mod rows_left;
 mod sorted;
 mod store;
 mod stored_entries;

@@ -1,5 +1,5 @@
 //! Tables in the order of their primary keys, which a shard that stores them in another order keeps while they are copied to targets.
-ghost use Rattle.std.specs.Prelude.{◌≡◌, ◌<◌, ◌≤◌, ◌==◌, ◌++◌, ◌∷◌, [], IsSome, IfOk, IfSome, OnOk, IsPermutation, true, option_copied, length, position};
+ghost use Rattle.std.specs.Prelude.{◌≡◌, ◌<◌, ◌≤◌, ◌==◌, ◌++◌, ◌∷◌, [], None, IsSome, IfOk, IfSome, OnOk, IsPermutation, true, option_copied, length, position};
 ghost use Rattle.vschema.specs.Database.{Database, rows_of, without, all_applied};
 ghost use Rattle.shard_store.specs.Slots.{slot_at};
 ghost use Rattle.shard_store.specs.Tables.{key_at};
@@ -7,12 +7,13 @@ ghost use Rattle.shard_contents.specs.Copying.{is_left_to_copy};
 ghost use Rattle.shard_contents.specs.inner.Placed.{AreFirst};
 ghost use Rattle.shard_contents.specs.inner.Stores.{row_after};
 ghost use Rattle.shard_contents.specs.inner.StoredLogs.{StoredLog, count_of, stored_since};
-ghost use Rattle.shard_contents.specs.inner.Earlier.{changes_by, HadRows, AllHadRows, IsCurrentTable};
+ghost use Rattle.shard_contents.specs.inner.Earlier.{changes_by, left_of, HadRows, AllHadRows, IsCurrentTable};
 
 use crate::contents::Contents;
 use crate::copying::NextTable;
-use crate::kept_entry::KeptEntry;
+use crate::kept_entry::{KeptEntry, few_entries};
 use crate::next_rows::{COPY_STEP, first_wanted};
+use crate::rows_left::{RowsLeft, put_left, put_some};
 use crate::stored_entries::StoredEntries;
 use shard_store::{
     AllRows, ChangedRows, RowKey, RowSource, SharedChange, SharedRow, StoredTables, TableRows,
@@ -22,21 +23,36 @@ use std::marker::Model;
 use vschema::{Place, Table};
 use vt_value::{Items, Row, copy_row};
 
-/// The rows of a table in the order of its primary key, as they were when the shard had stored so many entries. Contracts see an
-/// `EarlierTable`.
-#[derive(Drop)]
+/// The rows of a table in the order of its primary key, as they were when the shard had stored so many entries, and those that are still to
+/// be put in order. Contracts see an `EarlierTable`.
 pub struct SortedTable {
     table: usize,
     stored: usize,
     rows: TableRows,
+    left: Option<RowsLeft>,
+}
+
+impl Drop for SortedTable {
+    // Who drops one calls this, and need not know what it owns.
+    fn drop(self) {
+        let SortedTable {
+            table: _,
+            stored: _,
+            rows,
+            left,
+        } = self;
+        drop(rows);
+        drop(left);
+    }
 }
 
 impl Model for SortedTable {
-    ghost use Rattle.shard_contents.specs.inner.Earlier.{EarlierTable};
+    ghost use Rattle.std.specs.Prelude.{◌++◌};
+    ghost use Rattle.shard_contents.specs.inner.Earlier.{EarlierTable, left_of};
 
     ghost Value = { EarlierTable };
 
-    ghost view = { λ t. record { table = t.table; stored = t.stored; rows = t.rows.rows } };
+    ghost view = { λ t. record { table = t.table; stored = t.stored; rows = t.rows.rows ++ left_of t.left } };
 }
 
 // The key of a row, with memory to put the row in or to take it out.
@@ -52,7 +68,7 @@ fn make_room(alloc: Global, rows: &mut TableRows, row: &Row) -> Result<RowKey, A
 }
 
 // Adds a copy of a row.
-fn add_copy(alloc: Global, rows: &mut TableRows, row: &Row) -> Result<(), AllocError>
+pub(crate) fn add_copy(alloc: Global, rows: &mut TableRows, row: &Row) -> Result<(), AllocError>
     ensures ok { OnOk result (IsPermutation rows.new.rows (rows.old.rows ++ row.now ∷ [])) }
 {
     let key = make_room(alloc, rows, row)?;
@@ -121,10 +137,13 @@ fn change_by(
     Ok(())
 }
 
-// Adds copies of rows to a table without rows.
-fn add_copies(alloc: Global, rows: &mut TableRows, all: AllRows<'_>) -> Result<(), AllocError>
-    requires { rows.old.rows ≡ [] }
-    ensures ok { OnOk result (IsPermutation rows.new.rows all.entry) }
+// Adds copies of rows.
+pub(crate) fn add_copies(
+    alloc: Global,
+    rows: &mut TableRows,
+    all: AllRows<'_>,
+) -> Result<(), AllocError>
+    ensures ok { OnOk result (IsPermutation rows.new.rows (rows.old.rows ++ all.entry)) }
 {
     let mut all = all;
     while let Some(row) = all.next_row() {
@@ -152,10 +171,33 @@ impl SortedTable {
             table: place,
             stored,
             rows,
+            left: None,
         })
     }
 
-    // Brings the rows forward by the entries that were stored since.
+    // The table at a place as it is, of which no row is put in order yet, when so many entries are stored.
+    fn begun(
+        alloc: Global,
+        store: &mut StoredTables,
+        place: usize,
+        table: &Table,
+        stored: usize,
+    ) -> Result<SortedTable, AllocError>
+        requires { place < length store.old.rows }
+        ensures ok { IfOk result (IsCurrentTable place stored store.old.rows) }
+        ensures rows { store.new.rows ≡ store.old.rows }
+    {
+        let left = RowsLeft::new(alloc, store, place)?;
+        let key = Items::from_slice(alloc, table.primary_key.as_slice())?;
+        Ok(SortedTable {
+            table: place,
+            stored,
+            rows: TableRows::new(alloc, key),
+            left: Some(left),
+        })
+    }
+
+    // Puts all rows in order, and brings them forward by the entries that were stored since.
     fn bring_forward(&mut self, alloc: Global, stored: &StoredEntries) -> Result<(), AllocError>
         requires there { stored.now.log.first ≤ self.old.stored }
         requires within { self.old.stored ≤ count_of stored.now.log }
@@ -164,22 +206,60 @@ impl SortedTable {
         ensures rows { OnOk result ((db : Database) → self.old.table < length db → IsPermutation self.old.rows (rows_of db self.old.table)
             → IsPermutation self.new.rows (rows_of (all_applied (changes_by (stored_since stored.now.log self.old.stored)) db) self.old.table)) }
     {
+        put_left(alloc, &mut self.rows, &mut self.left)?;
         let since = stored.since(self.stored);
         change_by(alloc, self.table, &mut self.rows, since)?;
         self.stored = stored.len();
         Ok(())
     }
 
-    // Of its rows that lie in the place beyond the last one, the first by key, as many as one step copies.
+    // Brings the rows forward by some of the entries that were stored since, and answers whether more were.
+    fn bring_some(&mut self, alloc: Global, stored: &StoredEntries) -> Result<bool, AllocError>
+        requires there { stored.now.log.first ≤ self.old.stored }
+        requires within { self.old.stored ≤ count_of stored.now.log }
+        ensures had { OnOk result ((now : Database) → self.old.table < length now → HadRows stored.now.log now self.old → HadRows stored.now.log now self.new) }
+    {
+        put_left(alloc, &mut self.rows, &mut self.left)?;
+        let since = stored.since(self.stored);
+        let count = few_entries(since);
+        change_by(alloc, self.table, &mut self.rows, &since[..count])?;
+        if count > usize::MAX - self.stored {
+            // never were so many stored
+            return Err(AllocError);
+        }
+        self.stored += count;
+        Ok(count < since.len())
+    }
+
+    // Puts some more rows in order, or, once all are, brings them forward by some entries. Answers whether more is left to do.
+    fn go_on(&mut self, alloc: Global, stored: &StoredEntries) -> Result<bool, AllocError>
+        requires there { stored.now.log.first ≤ self.old.stored }
+        requires within { self.old.stored ≤ count_of stored.now.log }
+        ensures had { OnOk result ((now : Database) → self.old.table < length now → HadRows stored.now.log now self.old → HadRows stored.now.log now self.new) }
+    {
+        match self.left.take() {
+            Some(left) => {
+                self.left = put_some(alloc, &mut self.rows, left)?;
+                Ok(true)
+            }
+            None => self.bring_some(alloc, stored),
+        }
+    }
+
+    // Of its rows that lie in the place beyond the last one, the first by key, as many as one step copies. All rows are put in order first.
     fn first_wanted(
-        &self,
+        &mut self,
         alloc: Global,
         place: &Place,
         table: &Table,
         last: Option<&Row>,
     ) -> Result<Vec<Row>, AllocError>
-        ensures ok { IfOk result (λ first. AreFirst table.now (is_left_to_copy place.now table.now (option_copied last.entry)) self.now.rows first.items) }
+        ensures ok { IfOk result (λ first. AreFirst table.now (is_left_to_copy place.now table.now (option_copied last.entry)) self.new.rows first.items) }
+        ensures table { OnOk result (self.new.table ≡ self.old.table) }
+        ensures stored { OnOk result (self.new.stored ≡ self.old.stored) }
+        ensures rows { OnOk result (IsPermutation self.new.rows self.old.rows) }
     {
+        put_left(alloc, &mut self.rows, &mut self.left)?;
         let rows = self.rows.rows_after(alloc, table, last)?;
         first_wanted(alloc, place, table, last, rows)
     }
@@ -195,13 +275,16 @@ fn ordinal_of(tables: &[SortedTable], table: usize) -> Option<usize>
 /// Tables in the order of their primary keys, each once. Contracts see a list of `EarlierTable`s.
 pub struct SortedTables {
     tables: Vec<SortedTable>,
+    // one whose rows were copied, until somebody drops it without the shard's lock
+    done: Option<SortedTable>,
 }
 
 impl Drop for SortedTables {
     // Who drops one calls this, and need not know what it owns.
     fn drop(self) {
-        let SortedTables { tables } = self;
+        let SortedTables { tables, done } = self;
         drop(tables);
+        drop(done);
     }
 }
 
@@ -221,6 +304,7 @@ impl SortedTables {
     {
         SortedTables {
             tables: Vec::new(alloc),
+            done: None,
         }
     }
 
@@ -229,6 +313,14 @@ impl SortedTables {
         ensures { self.new ≡ [] }
     {
         self.tables.clear();
+        self.done = None;
+    }
+
+    /// Hands out the table whose rows were copied last, if it wasn't yet: to drop it takes time in its rows, which nobody has to wait for.
+    pub fn take_done(&mut self) -> Option<SortedTable>
+        ensures { self.new ≡ self.old }
+    {
+        self.done.take()
     }
 
     // Takes out the table at an ordinal of the VSchema, if it is there.
@@ -262,11 +354,12 @@ impl SortedTables {
         }
     }
 
-    // Keeps a table of which so many rows were copied last, unless these were the last of all.
+    // Keeps a table of which so many rows were copied last. If these were the last of all it is done.
     fn keep(&mut self, sorted: SortedTable, copied: usize) -> Result<(), AllocError>
         ensures had { (log : StoredLog) (now : Database) → HadRows log now sorted → AllHadRows log now self.old → AllHadRows log now self.new }
     {
         if copied < COPY_STEP {
+            self.done = Some(sorted);
             return Ok(());
         }
         self.tables.push(sorted)?;
@@ -289,17 +382,53 @@ impl SortedTables {
         ensures had { AllHadRows contents.now.stored.log contents.now.store.rows self.new }
         ensures ok { IfOk result (λ first. AreFirst table.now (is_left_to_copy place.now table.now next.now.after) (rows_of contents.now.store.rows next.now.table) first.items) }
     {
-        let sorted = self.take_current(alloc, contents, next.table, table)?;
+        let mut sorted = self.take_current(alloc, contents, next.table, table)?;
         let first = sorted.first_wanted(alloc, place, table, next.after.as_ref())?;
         self.keep(sorted, first.len())?;
         Ok(first)
     }
 }
 
+impl SortedTables {
+    /// Puts some more rows of the table at a place in the order of its primary key, or, once all are, brings them forward by some of the entries
+    /// that were stored since; nothing, if the table is stored in that order. Answers whether more is left to do. If memory is wanting the
+    /// table is gone.
+    pub fn sort_some(
+        &mut self,
+        alloc: Global,
+        store: &mut StoredTables,
+        stored: &StoredEntries,
+        place: usize,
+        table: &Table,
+    ) -> Result<bool, AllocError>
+        requires there { place < length store.old.rows }
+        requires followed { stored.now.log.is_followed ≡ true }
+        requires had { AllHadRows stored.now.log store.old.rows self.old }
+        ensures had { AllHadRows stored.now.log store.old.rows self.new }
+        ensures rows { store.new.rows ≡ store.old.rows }
+    {
+        if store.rows_after(alloc, place, table, None)?.in_order {
+            return Ok(false);
+        }
+        match self.take(place) {
+            Some(mut sorted) => {
+                let more = sorted.go_on(alloc, stored)?;
+                self.keep(sorted, COPY_STEP)?;
+                Ok(more)
+            }
+            None => {
+                let begun = SortedTable::begun(alloc, store, place, table, stored.len())?;
+                self.keep(begun, COPY_STEP)?;
+                Ok(true)
+            }
+        }
+    }
+}
+
 impl Contents {
     /// Of the rows of a table that lie in the place beyond the last one, the first by key, as many as one step copies. A table that isn't
-    /// stored in the order of its primary key is sorted at its first step, which takes as long as that, and kept so until its last.
-    /// Refuses for want of memory.
+    /// stored in the order of its primary key is kept so until its last step. What isn't sorted yet of it is sorted then, which takes as long as
+    /// that. Refuses for want of memory.
     pub fn first_wanted(
         &self,
         alloc: Global,

@@ -1,5 +1,5 @@
 -- Tables in the order of their primary keys, as they were when a shard had stored so many entries.
-use Rattle.std.specs.Prelude.{◌≡◌, ℕ, ◌≤◌, true, List, flat_map, IsPermutation}
+use Rattle.std.specs.Prelude.{◌≡◌, ℕ, ◌≤◌, true, List, [], Option, Some, None, flat_map, IsPermutation}
 use Rattle.std.specs.List.{AllByRecursion}
 use Rattle.vt_value.specs.Values.{Row}
 use Rattle.vschema.specs.declared.changes.RowChange.{RowChange}
@@ -11,6 +11,11 @@ pub record EarlierTable : Type 0 where
   pub table : ℕ
   pub stored : ℕ
   pub rows : List Row
+
+-- the rows that are left, if any are
+abbrev pub left_of : Option (List Row) → List Row
+left_of None = []
+left_of (Some rows) = rows
 
 -- what entries change, in order, by what is kept of each
 abbrev pub changes_by : List (List RowChange) → List RowChange

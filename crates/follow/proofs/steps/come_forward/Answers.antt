@@ -14,7 +14,7 @@ use Rattle.follow.specs.Steps.{HasMoved, IsFull}
 use Rattle.follow.specs.inner.NextEntries.{HasTaken, IsOneLook}
 use Rattle.follow.proofs.Onward.{still, looked, onward_trans}
 use Rattle.follow.proofs.Moves.{takeable, moved, if_ok_as, on_err_as}
-use Rattle.follow.proofs.Turns.{one_look, one_step, refused_second, refused_last}
+use Rattle.follow.proofs.Turns.{one_look, one_step, refused_first, refused_second, refused_last}
 use Rattle.follow.proofs.steps.come_forward.Goals as goal
 
 pub take-requires-clause-given : goal.take-requires-clause-given
@@ -80,6 +80,14 @@ returns-clause-onward g c =
     onward_trans o p q c.take.new.pass
     (onward_trans o p c.look.new.pass q (looked o p p c.look.new.pass _ _ _ (still o p c.requires.legal) l.seen l.pass) c.next_from.ensures.onward)
     c.take.ensures.onward
+
+pub returns-in_err-sort_ahead-clause-nothing : goal.returns-in_err-sort_ahead-clause-nothing
+returns-in_err-sort_ahead-clause-nothing g c =
+    let target = c.args.state.now.shard in
+    let p = c.args.pass.now in
+    let mid = c.look.new.pass in
+    let none = refused_first c.args.source.now.which target p mid (one_look p mid target.slot _ c.look.ensures.pass) in
+    search (rules, none)
 
 pub returns-in_err-given-clause-nothing : goal.returns-in_err-given-clause-nothing
 returns-in_err-given-clause-nothing g c =
