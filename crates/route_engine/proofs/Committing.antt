@@ -9,7 +9,6 @@ use Rattle.vschema.specs.declared.schema.Place.{Place}
 use Rattle.vschema.specs.declared.schema.Table.{Table}
 use Rattle.vschema.specs.declared.schema.Typed.TheVariants as typed
 use Rattle.vschema.specs.declared.changes.Write.{Write}
-use Rattle.vschema.specs.declared.changes.RowChange.{RowChange}
 use Rattle.vschema.specs.Database.{Database, restrict, all_applied}
 use Rattle.vschema.specs.TypedWrites.{IsTypedWrite}
 use Rattle.vschema.specs.WellFormed.{is_vschema}
@@ -56,7 +55,7 @@ module _ (o : Opening) (opens : IsOpening o) (formed : is_vschema o.schema ≡ t
   needed_is : needed t r seats ≡ needed_by o w seats
   needed_is = ap (λ (x : Table). needed x r seats) t_is ∙ ap (λ (x : Route). needed (table_at o.schema (written_table w)) x seats) r_is
 
-  pub nowhere : needed t r seats ≡ [] → IsTried o limits p w (Done 0) p
+  pub nowhere : needed t r seats ≡ [] → IsTried o limits seats p w (Done 0) p
   nowhere none =
       written (a.nowhere seats is (sym needed_is ∙ none) ([], stays o p legal)
       (nowhere_over o opens formed p.seen (legal_is o p.seen legal) w is_typed seats is (sym needed_is ∙ none)))
@@ -102,10 +101,8 @@ module _ (o : Opening) (opens : IsOpening o) (formed : is_vschema o.schema ≡ t
       served = served_at o now.seen s seat.0 stands on_slot past
 
       held_up : HasLooked o s.slot p now → is_writable (mode o now.seen s.slot) ≡ false
-          → IsHeldUp o (table_at o.schema (written_table w)) (write_route o.schema w) is_writable p.seen now.seen
+          → IsHeldUp o (table_at o.schema (written_table w)) (write_route o.schema w) is_writable p.seen now.seen seats
       held_up look off = record {
-        seats = seats;
-        partition = is;
         seat = seat;
         needed = Contains-from_In seat (needed_by o w seats) (subst (In seat) (sym one_is ∙ needed_is) (inl refl));
         run = now.seen;
@@ -135,7 +132,7 @@ module _ (o : Opening) (opens : IsOpening o) (formed : is_vschema o.schema ≡ t
           (subst (λ (n : ℕ). GivesOver o.schema (database o h.before) (typed.Write w) (Count n) (all_applied h.changes (database o h.before))) counts
           (over.writes h.changes of))
 
-      pub answered : (r : CommitOutcome) → HasAnswered o limits s p w r now → IsTried o limits p w (tried r) now
+      pub answered : (r : CommitOutcome) → HasAnswered o limits s p w r now → IsTried o limits seats p w (tried r) now
       answered _ (c.committed {count} h) = written (a.wrote s alone ([], stays o p legal) h (means_over count h))
       answered _ (c.frozen look m) = again (gone_by o s.slot p now look) (held_up look (ap is_writable m))
       answered _ (c.not_serving look m) = again (gone_by o s.slot p now look) (held_up look (not_writable (mode o now.seen s.slot) m))

@@ -2,7 +2,7 @@
 use Rattle.std.proofs.Common.{◌≡◌, true, ℕ, List, [], ◌∷◌, ◌++◌, length, Result, Ok, Err, refl, sym, ap, subst, ◌∙◌}
 use Rattle.std.specs.List.{AllByRecursion}
 use Rattle.std.proofs.lemmas.List.{append-nil}
-use Rattle.std.proofs.lemmas.List.Sorted.{length_permutation, IsPermutation-refl}
+use Rattle.std.proofs.lemmas.List.Sorted.{IsPermutation-refl}
 use mathlib.Core.List.{IsPrefix}
 use Rattle.vt_value.specs.declared.refusal.Refusal.{Refusal}
 use Rattle.sql_tree.specs.declared.Statement.{Statement}
@@ -13,7 +13,7 @@ use Rattle.vschema.specs.declared.schema.Typed.TheVariants as typed
 use Rattle.vschema.specs.declared.schema.VSchema.{VSchema}
 use Rattle.vschema.specs.declared.changes.Write.{Write}
 use Rattle.vschema.specs.declared.changes.RowChange.{RowChange}
-use Rattle.vschema.specs.Database.{Database, restrict, applied, all_applied}
+use Rattle.vschema.specs.Database.{Database, applied, all_applied}
 use Rattle.vschema.specs.Sources.{SourcesThere, JoinsInPlace}
 use Rattle.vschema.specs.TypedStatement.{typed_statement}
 use Rattle.vschema.specs.TypedWrites.{IsTypedWrite}
@@ -23,7 +23,7 @@ use Rattle.shard_contents.specs.Writes.{changes_of, change}
 use Rattle.shard_calls.specs.Routes.{table_at}
 use Rattle.journal.specs.Runs.{LegalAfter, IsLegal}
 use Rattle.journal.specs.Views.{PassView}
-use Rattle.journal.proofs.Fronts.{prefix_self, prefix_trans, legal_front}
+use Rattle.journal.proofs.Fronts.{prefix_self, prefix_trans}
 use Rattle.shard_run.specs.declared.ShardRecord.{ShardRecord}
 use Rattle.shard_run.specs.declared.Entry.{Entry}
 use Rattle.shard_run.specs.Runs.{Run, Opening, opening_rows, database, commit_changes}

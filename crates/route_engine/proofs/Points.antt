@@ -1,5 +1,5 @@
 -- A query by its key, which its shard answers without a plan.
-use Rattle.std.proofs.Common.{◌≡◌, ◌<◌, ℕ, List, [], ◌∷◌, length, get_or, refl, sym, ap, ◌∙◌, subst, append-nil}
+use Rattle.std.proofs.Common.{◌≡◌, ◌<◌, List, [], ◌∷◌, length, get_or, refl, sym, ap, ◌∙◌, subst, append-nil}
 use Rattle.vt_value.specs.declared.refusal.Refusal.{Refusal}
 use Rattle.vt_value.specs.Values.{Row}
 use Rattle.vschema.specs.declared.schema.Table.{Table}
@@ -9,7 +9,7 @@ use Rattle.vschema.specs.Schema.{no_table}
 use Rattle.vschema.specs.Sources.{JoinsInPlace}
 use Rattle.journal.specs.Views.{PassView}
 use Rattle.shard_run.specs.declared.Entry.{Entry}
-use Rattle.shard_run.specs.Runs.{Opening}
+use Rattle.shard_run.specs.Runs.{Opening, answers_queries}
 use Rattle.shard_run.specs.Openings.{IsOpening}
 use Rattle.shard_calls.specs.Routes.{table_at}
 use Rattle.std.proofs.lemmas.List.{get_or_default}
@@ -21,7 +21,7 @@ use Rattle.shard_calls.specs.Answers as a
 use Rattle.shard_calls.specs.Answers.{HasGone, HasRead, MayReadRefuse}
 use Rattle.shard_calls.specs.inner.Scatter.{IsScattered, IsFinished}
 use Rattle.route_engine.proofs.Selecting.{selected, gone_on}
-use Rattle.route_engine.proofs.Scattering.{held_up_after}
+use Rattle.shard_calls.proofs.Finding.{held_up_since}
 
 module _ (o : Opening) (opens : IsOpening o) (schema : VSchema) (served : schema ≡ o.schema) (q : Query) (joins : JoinsInPlace o.schema q)
     (there : q.table < length schema.tables) (t : Table) (t_is : t ≡ get_or schema.tables q.table t) where
@@ -38,7 +38,7 @@ module _ (o : Opening) (opens : IsOpening o) (schema : VSchema) (served : schema
 pub refused_after : (o : Opening) (p since now : PassView Entry) (q : Query) (e : Refusal) → HasGone o p since → MayReadRefuse o since q e now → MayReadRefuse o p q e now
 refused_after o p since now q e gone (a.no_memory g) = a.no_memory (gone_on o p since now gone g)
 refused_after o p since now q e gone (a.buffer_full g held) =
-    a.buffer_full (gone_on o p since now gone g) (held_up_after o (table_at o.schema q.table) (planned (table_at o.schema q.table) q) p since now gone held)
+    a.buffer_full (gone_on o p since now gone g) (held_up_since o (table_at o.schema q.table) (planned (table_at o.schema q.table) q).route answers_queries p.seen since.seen now.seen gone.1.later held)
 
 -- the rows of one shard are finished
 pub finished_alone : (o : Opening) (t : Table) (q : Query) (p now : PassView Entry) (rows : List Row) (reads : List ShardRead) → IsScattered o t (planned t q) p (rows ∷ []) reads now

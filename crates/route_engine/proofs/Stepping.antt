@@ -36,7 +36,6 @@ use Rattle.shard_calls.proofs.Moves.{pending_nothing, pending_same}
 use Rattle.shard_calls.specs.declared.reply.Answer.{Answer}
 use Rattle.shard_calls.specs.declared.reply.Answer.TheVariants.{Rows, Count}
 use Rattle.shard_calls.specs.declared.reply.ShardRead.{ShardRead}
-use Rattle.shard_calls.specs.Seats.{seat_of}
 use Rattle.shard_calls.specs.Answers.{HasGone, WritesAlone}
 use Rattle.shard_calls.specs.Alone as over
 use Rattle.shard_calls.specs.Transactions as t

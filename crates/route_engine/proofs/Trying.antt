@@ -1,5 +1,5 @@
 -- One try to commit a write on the one shard that it needs by a partition.
-use Rattle.std.proofs.Common.{◌≡◌, ℕ, ◌<◌, ◌≤◌, true, false, ◌==◌, List, [], ◌∷◌, length, filter, Some, refl, sym, ap, subst, ◌∙◌, inl, inr}
+use Rattle.std.proofs.Common.{◌≡◌, ℕ, ◌<◌, true, false, ◌==◌, List, [], ◌∷◌, length, filter, Some, refl, sym, ap, subst, ◌∙◌, inl, inr}
 use Rattle.std.specs.List.{All, AllByRecursion, list_all}
 use Rattle.std.proofs.lemmas.Bool.{and_from, eq-eqb}
 use Rattle.std.proofs.lemmas.List.Sums.{length-filter}
@@ -18,19 +18,16 @@ use Rattle.vschema.specs.TypedWrites.{IsTypedWrite}
 use Rattle.shard_contents.specs.Writes.{written_table}
 use Rattle.shard_calls.specs.Route.{Route}
 use Rattle.shard_calls.specs.Routes.{table_at, write_route, insert_route, takes}
-use Rattle.journal.specs.Runs.{IsLegal, NumbersBelow, number_of}
+use Rattle.journal.specs.Runs.{NumbersBelow, number_of}
 use Rattle.journal.specs.Views.{PassView}
-use Rattle.journal.proofs.Fronts.{prefix_self, prefix_trans}
-use Rattle.shard_run.specs.declared.ShardRecord.{ShardRecord}
 use Rattle.shard_run.specs.declared.Mode.{Mode}
 use Rattle.shard_run.specs.declared.Mode.TheVariants.{Following, Serving, Frozen, Retired, Dropped}
 use Rattle.shard_run.specs.declared.Entry.{Entry}
-use Rattle.shard_run.specs.Runs.{Opening, mode, answers_queries}
-use Rattle.shard_contents.specs.Legal.{IsOnItsSlot}
-use Rattle.shard_contents.proofs.Lists.{In, In-from_filter, In-filter, In-from_map, Contains-from_In}
+use Rattle.shard_run.specs.Runs.{Opening, answers_queries}
+use Rattle.shard_contents.proofs.Lists.{In, In-from_filter, In-filter, In-from_map}
 use Rattle.serving.specs.Partitions.{Seat, IsPartition, ranges}
 use Rattle.shard_contents.specs.Limits.{Limits}
-use Rattle.shard_contents.specs.Entries.{MayFollow, HasLooked, commit_of}
+use Rattle.shard_contents.specs.Entries.{HasLooked, commit_of}
 use Rattle.shard_contents.specs.Commits.{IsPlaced}
 use Rattle.shard_calls.specs.declared.reply.Tried.{Tried}
 use Rattle.shard_calls.specs.declared.reply.Tried.TheVariants.{Done, Again}
@@ -39,7 +36,7 @@ use Rattle.shard_calls.specs.Answers.{needed, needed_by, HasGone, HasWritten, Is
 use Rattle.shard_calls.specs.inner.Scatter.{IsTried, written, again}
 use Rattle.shard_contents.proofs.Fitting.{fits-from_typed}
 use Rattle.route_engine.proofs.Everywhere.{everywhere}
-use Rattle.shard_calls.proofs.Finding.{all_since}
+use Rattle.shard_calls.proofs.Finding.{partition_since, held_up_since}
 use Rattle.route_engine.proofs.Placing.{some_in, row_taken, only_one}
 use Rattle.route_engine.proofs.Selecting.{gone_on}
 
@@ -96,28 +93,13 @@ module _ (o : Opening) (limits : Limits) (w : Write) (p since now : PassView Ent
   written_after _ (a.nowhere seats is none more means) = a.nowhere seats is none (gone_on o p since now gone more) means
   written_after _ (a.wrote s alone more h means) = a.wrote s alone (gone_on o p since _ gone more) h means
 
-  pub held_after : (t : Table) (r : Route) → IsHeldUp o t r is_writable since.seen now.seen → IsHeldUp o t r is_writable p.seen now.seen
-  held_after t r is = record {
-    seats = is.seats;
-    partition = is.partition;
-    seat = is.seat;
-    needed = is.needed;
-    run = is.run;
-    since = prefix_trans p.seen since.seen is.run gone.1.later is.since;
-    until = is.until;
-    shard = is.shard;
-    served = is.served;
-    on_slot = is.on_slot;
-    in_place = is.in_place;
-    held_up = is.held_up;
-  }
-
   pub refused_after : (e : Refusal) → MayWriteRefuse o limits since w e now → MayWriteRefuse o limits p w e now
   refused_after _ (a.no_memory more) = a.no_memory (gone_on o p since now gone more)
   refused_after _ (a.several seats found h more) =
-      a.several seats (record { partition = found.partition; home = found.home; found = all_since o p.seen since.seen now.seen gone.1.later seats found.found }) h
-      (gone_on o p since now gone more)
-  refused_after _ (a.buffer_full more held) = a.buffer_full (gone_on o p since now gone more) (held_after _ _ held)
+      a.several seats (partition_since o p.seen since.seen now.seen gone.1.later _ seats found) h (gone_on o p since now gone more)
+  refused_after _ (a.buffer_full more held) =
+      a.buffer_full (gone_on o p since now gone more)
+      (held_up_since o (table_at o.schema (written_table w)) (write_route o.schema w) is_writable p.seen since.seen now.seen gone.1.later held)
   refused_after _ (a.refused s alone more look served serves why) = a.refused s alone (gone_on o p since _ gone more) look served serves why
 
 -- numbers are still above those of the session's commits
@@ -134,15 +116,15 @@ pub same_session : (o : Opening) (p now : PassView Entry) → HasGone o p now �
 same_session o p now (added, is) = ap (λ (v : PassView Entry). v.session) is.pass
 
 -- what comes back is the write, after looks, by one of which its shard took no commits
-pub record CameBack (o : Opening) (w w' : Write) (p now : PassView Entry) : Type 0 where
+pub record CameBack (o : Opening) (w w' : Write) (seats : List Seat) (p now : PassView Entry) : Type 0 where
   pub same : w' ≡ w
   pub gone : HasGone o p now
-  pub held : IsHeldUp o (table_at o.schema (written_table w)) (write_route o.schema w) is_writable p.seen now.seen
+  pub held : IsHeldUp o (table_at o.schema (written_table w)) (write_route o.schema w) is_writable p.seen now.seen seats
 
-pub came_back : (o : Opening) (limits : Limits) (w w' : Write) (p now : PassView Entry) (r : Tried) → r ≡ Again w' → IsTried o limits p w r now
-    → CameBack o w w' p now
-came_back o limits w w' p now _ is (written h) = absurd (cc is)
-came_back o limits w w' p now _ is (again gone held) = record { same = same w w' is; gone = gone; held = held }
+pub came_back : (o : Opening) (limits : Limits) (w w' : Write) (seats : List Seat) (p now : PassView Entry) (r : Tried) → r ≡ Again w'
+    → IsTried o limits seats p w r now → CameBack o w w' seats p now
+came_back o limits w w' seats p now _ is (written h) = absurd (cc is)
+came_back o limits w w' seats p now _ is (again gone held) = record { same = same w w' is; gone = gone; held = held }
   where
     same : (x y : Write) → Again x ≡ Again y → y ≡ x
     same x y e = sym (ap (λ (r : Tried). write_of x r) e)
@@ -151,9 +133,9 @@ came_back o limits w w' p now _ is (again gone held) = record { same = same w w'
         write_of d (Done n) = d
         write_of d (Again v) = v
 
-pub is_written : (o : Opening) (limits : Limits) (w : Write) (count : ℕ) (p now : PassView Entry) (r : Tried) → r ≡ Done count → IsTried o limits p w r now
+pub is_written : (o : Opening) (limits : Limits) (w : Write) (count : ℕ) (seats : List Seat) (p now : PassView Entry) (r : Tried) → r ≡ Done count → IsTried o limits seats p w r now
     → HasWritten o limits p w (record { answer = Rattle.shard_calls.specs.declared.reply.Answer.TheVariants.Count count; reads = [] }) now
-is_written o limits w count p now _ is (written {count = n} h) = subst (λ k. HasWritten o limits p w (record { answer = Rattle.shard_calls.specs.declared.reply.Answer.TheVariants.Count k; reads = [] }) now) (same n count is) h
+is_written o limits w count seats p now _ is (written {count = n} h) = subst (λ k. HasWritten o limits p w (record { answer = Rattle.shard_calls.specs.declared.reply.Answer.TheVariants.Count k; reads = [] }) now) (same n count is) h
   where
     same : (x y : ℕ) → Done x ≡ Done y → x ≡ y
     same x y e = ap (λ (r : Tried). number_or x r) e
@@ -161,4 +143,4 @@ is_written o limits w count p now _ is (written {count = n} h) = subst (λ k. Ha
         number_or : ℕ → Tried → ℕ
         number_or d (Done n) = n
         number_or d (Again v) = d
-is_written o limits w count p now _ is (again gone held) = absurd (cc is)
+is_written o limits w count seats p now _ is (again gone held) = absurd (cc is)

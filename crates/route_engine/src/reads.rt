@@ -6,7 +6,7 @@ ghost use Rattle.shard_calls.specs.Plans.{planned};
 ghost use Rattle.serving.specs.Partitions.{AreOf};
 ghost use Rattle.shard_contents.specs.Entries.{MayFollow};
 ghost use Rattle.shard_run.specs.Runs.{answers_queries};
-ghost use Rattle.shard_calls.specs.Answers.{needed, HasGone, HasRead, IsHeldUp, MayReadRefuse};
+ghost use Rattle.shard_calls.specs.Answers.{needed, HasGone, HasRead, IsHeldUp, IsHeldUpBy, MayReadRefuse};
 ghost use Rattle.shard_calls.specs.inner.Scatter.{IsScattered, IsFinished, CanJoinAll, AllInOrder};
 ghost use Rattle.route_engine.specs.inner.Answers.{HasReadRows};
 
@@ -17,8 +17,8 @@ use operators::{Operator, Rows};
 use serving::{Partition, Seated, ShardReference};
 use shard_calls::{
     Answer, Gate, Gathered, GatheredAlone, Plan, Reply, Route, Selected, Shard, ShardPass,
-    ShardRead, World, gather, is_answer, is_plain, jobs, only_needed, piece_for, plan, point_route,
-    read_all, read_alone,
+    ShardRead, World, find_partition, gather, is_answer, is_plain, jobs, only_needed, piece_for,
+    plan, point_route, read_all, read_alone,
 };
 use shard_contents::narrow;
 use sql_tree::Item;
@@ -72,7 +72,7 @@ impl<W: World + Send + Sync, J: Naming + Send + Sync, G: Gate> Engine<W, J, G> {
         requires legal { IsLegal (MayFollow W.opening) pass.old.seen }
         ensures gone { HasGone W.opening pass.old pass.new }
         ensures ok { IfOk result (λ r. IfSome r (λ g. IsScattered W.opening read.now.table.now read.now.plan.now pass.old (map ⟦<Rows as Operator>⟧.to_come g.pieces.items) g.reads pass.new)) }
-        ensures stalled { IfOk result (λ r. IfNone r (IsHeldUp W.opening read.now.table.now read.now.plan.now.route answers_queries pass.old.seen pass.new.seen)) }
+        ensures stalled { IfOk result (λ r. IfNone r (IsHeldUp W.opening read.now.table.now read.now.plan.now.route answers_queries pass.old.seen pass.new.seen read.now.partition.now)) }
     {
         let jobs = jobs(alloc, pass, read.partition.parts(), read.table, read.plan)?;
         let done = read_all(rt, alloc, &self.gate, jobs)?;
@@ -93,7 +93,7 @@ impl<W: World + Send + Sync, J: Naming + Send + Sync, G: Gate> Engine<W, J, G> {
         requires legal { IsLegal (MayFollow W.opening) pass.old.seen }
         ensures gone { HasGone W.opening pass.old pass.new }
         ensures ok { IfOk result (λ r. IfSome r (λ g. IsScattered W.opening read.now.table.now read.now.plan.now pass.old (g.rows ∷ []) g.reads pass.new)) }
-        ensures stalled { IfOk result (λ r. IfNone r (IsHeldUp W.opening read.now.table.now read.now.plan.now.route answers_queries pass.old.seen pass.new.seen)) }
+        ensures stalled { IfOk result (λ r. IfNone r (IsHeldUp W.opening read.now.table.now read.now.plan.now.route answers_queries pass.old.seen pass.new.seen read.now.partition.now)) }
     {
         // its parts are those of a partition
         let _ = read.partition.parts();
@@ -118,7 +118,7 @@ impl<W: World + Send + Sync, J: Naming + Send + Sync, G: Gate> Engine<W, J, G> {
         requires legal { IsLegal (MayFollow W.opening) pass.old.seen }
         ensures gone { HasGone W.opening pass.old pass.new }
         ensures ok { IfOk result (λ r. IfSome r (λ x. IsFinished W.opening read.now.table.now read.now.plan.now pass.old x.0 x.1 pass.new)) }
-        ensures stalled { IfOk result (λ r. IfNone r (IsHeldUp W.opening read.now.table.now read.now.plan.now.route answers_queries pass.old.seen pass.new.seen)) }
+        ensures stalled { IfOk result (λ r. IfNone r (IsHeldUp W.opening read.now.table.now read.now.plan.now.route answers_queries pass.old.seen pass.new.seen read.now.partition.now)) }
     {
         let Some(gathered) = self.ask_alone(rt, alloc, pass, read, part)? else {
             return Ok(None);
@@ -148,7 +148,7 @@ impl<W: World + Send + Sync, J: Naming + Send + Sync, G: Gate> Engine<W, J, G> {
         requires legal { IsLegal (MayFollow W.opening) pass.old.seen }
         ensures gone { HasGone W.opening pass.old pass.new }
         ensures ok { IfOk result (λ r. IfSome r (λ x. IsFinished W.opening read.now.table.now read.now.plan.now pass.old x.0 x.1 pass.new)) }
-        ensures stalled { IfOk result (λ r. IfNone r (IsHeldUp W.opening read.now.table.now read.now.plan.now.route answers_queries pass.old.seen pass.new.seen)) }
+        ensures stalled { IfOk result (λ r. IfNone r (IsHeldUp W.opening read.now.table.now read.now.plan.now.route answers_queries pass.old.seen pass.new.seen read.now.partition.now)) }
     {
         if let Some(part) = lone_part(read.partition.parts(), read.table, &read.plan.route) {
             return self.answer_alone(rt, alloc, pass, read, part);
@@ -183,7 +183,7 @@ impl<W: World + Send + Sync, J: Naming + Send + Sync, G: Gate> Engine<W, J, G> {
         ensures gone { HasGone W.opening pass.old pass.new }
         ensures ok { IfOk result (λ r. IsFinished W.opening table.now plan.now pass.old r.0 r.1 pass.new) }
         ensures err { IfErr result (λ e. (e ≡ Refusal.OutOfMemory)
-            ⊎ ((e ≡ Refusal.BufferFull) × IsHeldUp W.opening table.now plan.now.route answers_queries pass.old.seen pass.new.seen)) }
+            ⊎ ((e ≡ Refusal.BufferFull) × IsHeldUpBy W.opening table.now plan.now.route answers_queries pass.old.seen pass.new.seen)) }
     {
         let mut attempt = None;
         for _ in rt.forever() {
@@ -196,7 +196,13 @@ impl<W: World + Send + Sync, J: Naming + Send + Sync, G: Gate> Engine<W, J, G> {
             if let Some(answered) = self.answer_by(rt, alloc, pass, &read)? {
                 return Ok(answered);
             }
-            attempt = Some(self.next_attempt(rt, attempt, table.keyspace)?);
+            match self.next_attempt(rt, attempt, table.keyspace) {
+                Ok(next) => attempt = Some(next),
+                Err(full) => {
+                    find_partition(rt, pass, partition);
+                    return Err(full.into());
+                }
+            }
         }
         unreachable!()
     }

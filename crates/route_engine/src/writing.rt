@@ -14,8 +14,8 @@ use crate::routed::Routed;
 use journal::Naming;
 use serving::Partition;
 use shard_calls::{
-    Answer, CommitOutcome, Gate, Reply, Shard, ShardPass, Tried, World, counted, look_at_each,
-    only_needed, shard_of, write_route, written_table,
+    Answer, CommitOutcome, Gate, Reply, Shard, ShardPass, Tried, World, counted, find_partition,
+    look_at_each, only_needed, shard_of, write_route, written_table,
 };
 use std::alloc::Global;
 use std::sync::Wait;
@@ -55,7 +55,7 @@ impl<W: World + Send + Sync, J: Naming + Send + Sync, G: Gate> Engine<W, J, G> {
         requires session { IsSome pass.old.session }
         requires legal { IsLegal (MayFollow W.opening) pass.old.seen }
         requires above { (n : ℕ) → pass.old.session ≡ Some n → NumbersBelow commit_of n pass.old.statements pass.old.seen }
-        ensures ok { IfOk result (λ c. IsTried W.opening W.limits pass.old write c pass.new) }
+        ensures ok { IfOk result (λ c. IsTried W.opening W.limits partition.now pass.old write c pass.new) }
         ensures err { IfErr result (λ r. MayWriteRefuse W.opening W.limits pass.old write r pass.new) }
     {
         match only_needed(partition.parts(), routed.table, routed.route) {
@@ -110,6 +110,7 @@ impl<W: World + Send + Sync, J: Naming + Send + Sync, G: Gate> Engine<W, J, G> {
                 Ok(next) => attempt = Some(next),
                 Err(full) => {
                     drop(write);
+                    find_partition(rt, pass, partition);
                     return Err(full.into());
                 }
             }

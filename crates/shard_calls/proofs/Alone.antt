@@ -73,10 +73,8 @@ module _ (o : Opening) (t : Table) (plan : Plan) (seats : List Seat) (seat : Sea
     reads_are = refl;
   }
 
-  pub held_up_alone : AnswersQuery o now.seen s query NotServing → IsHeldUp o t plan.route answers_queries p.seen now.seen
+  pub held_up_alone : AnswersQuery o now.seen s query NotServing → IsHeldUp o t plan.route answers_queries p.seen now.seen seats
   held_up_alone (sh.not_serving h) = record {
-    seats = seats;
-    partition = is.partition;
     seat = seat;
     needed = subst (λ (l : List Seat). Contains l seat) (sym is.alone) (Contains-from_In seat (seat ∷ []) (inl refl));
     run = now.seen;

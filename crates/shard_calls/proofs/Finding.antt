@@ -1,13 +1,16 @@
 -- What looks at the shards of parts show.
-use Rattle.std.proofs.Common.{◌≡◌, ℕ, ◌+◌, ◌<◌, List, [], ◌∷◌, ◌++◌, length, take, get_or, sym, ap, subst, ◌∙◌}
+use Rattle.std.proofs.Common.{◌≡◌, ℕ, Bool, ◌+◌, ◌<◌, List, [], ◌∷◌, ◌++◌, length, take, get_or, sym, ap, subst, ◌∙◌}
 use Rattle.std.specs.List.{AllByRecursion}
 use Rattle.std.proofs.lemmas.List.{append_assoc, take_more}
 use mathlib.Core.List.{IsPrefix}
 use Rattle.vschema.specs.declared.schema.Place.{Place}
+use Rattle.vschema.specs.declared.schema.Table.{Table}
+use Rattle.planner.specs.declared.routes.Route.{Route}
 use Rattle.journal.specs.Views.{PassView}
 use Rattle.journal.proofs.Fronts.{prefix_self, prefix_trans}
 use Rattle.serving.specs.Partitions.{Seat}
 use Rattle.shard.specs.ShardRecord.{ShardRecord}
+use Rattle.shard.specs.Mode.{Mode}
 use Rattle.shard.specs.Mode.TheVariants.{Following}
 use Rattle.shard.specs.Entry.{Entry}
 use Rattle.shard.specs.Runs.{Run, Opening, mode}
@@ -16,7 +19,7 @@ use Rattle.shard.proofs.Lists.{AllByRecursion-push, all-weaker}
 use Rattle.shard.specs.Entries.{HasLooked}
 use Rattle.shard.specs.Seats.{seat_of, place_at}
 use Rattle.shard.proofs.Found.{of_run}
-use Rattle.shard_calls.specs.Answers.{HasGone, HasGoneOn, HasServed, WasFound}
+use Rattle.shard_calls.specs.Answers.{HasGone, HasGoneOn, HasServed, WasFound, IsFoundPartition, IsHeldUp, IsHeldUpBy}
 
 -- a shard that stands on its slot and doesn't follow
 pub served_at : (o : Opening) (run : Run) (s : ShardRecord) (slot : ℕ) → IsOnItsSlot o run s → s.slot ≡ slot → (mode o run slot ≡ Following → ⊥) → HasServed o run s
@@ -77,6 +80,44 @@ module _ (o : Opening) where
         served = is.served;
         seated = is.seated;
       }) seats all
+
+  pub partition_since : (early before now : Run) → IsPrefix early before → (keyspace : ℕ) (seats : List Seat) → IsFoundPartition o before now keyspace seats
+      → IsFoundPartition o early now keyspace seats
+  partition_since early before now later keyspace seats is =
+      record { partition = is.partition; home = is.home; found = all_since early before now later seats is.found }
+
+  -- what was so at a moment between two others was so between an earlier one and a later one
+  pub held_between : (t : Table) (r : Route) (answers : Mode → Bool) (early before old now : Run) (seats : List Seat) → IsPrefix early before → IsPrefix old now
+      → IsHeldUp o t r answers before old seats → IsHeldUp o t r answers early now seats
+  held_between t r answers early before old now seats earlier later is = record {
+    seat = is.seat;
+    needed = is.needed;
+    run = is.run;
+    since = prefix_trans early before is.run earlier is.since;
+    until = prefix_trans is.run old now is.until later;
+    shard = is.shard;
+    served = is.served;
+    on_slot = is.on_slot;
+    in_place = is.in_place;
+    held_up = is.held_up;
+  }
+
+  pub held_up_since : (t : Table) (r : Route) (answers : Mode → Bool) (early before now : Run) → IsPrefix early before → IsHeldUpBy o t r answers before now
+      → IsHeldUpBy o t r answers early now
+  held_up_since t r answers early before now earlier is = record {
+    seats = is.seats;
+    found = partition_since early before now earlier t.keyspace is.seats is.found;
+    held_up = held_between t r answers early before now now is.seats earlier (prefix_self now) is.held_up;
+  }
+
+  -- a statement that was held up by a partition, whose shards were then found
+  pub held_up_by : (t : Table) (r : Route) (answers : Mode → Bool) (before tried now : Run) (seats : List Seat) → IsPrefix before tried → IsPrefix tried now
+      → IsHeldUp o t r answers before tried seats → IsFoundPartition o tried now t.keyspace seats → IsHeldUpBy o t r answers before now
+  held_up_by t r answers before tried now seats earlier later held found = record {
+    seats = seats;
+    found = partition_since before tried now earlier t.keyspace seats found;
+    held_up = held_between t r answers before before tried now seats (prefix_self before) later held;
+  }
 
   -- the parts so far were found
   pub found_next : (p q now : PassView Entry) (parts : List Seat) (i : ℕ) (part : Seat) → i < length parts → part ≡ get_or parts i part

@@ -101,11 +101,9 @@ pub record IsFoundPartition (o : Opening) (before now : Run) (keyspace : ℕ) (s
   pub home : AreOf keyspace seats
   pub found : AllByRecursion (WasFound o before now) seats
 
--- A shard that a statement on the table with this route needs by a partition didn't answer at some moment between: its mode was none of
+-- A shard that a statement on the table with this route needs by this partition didn't answer at some moment between: its mode was none of
 -- these. It is a shard of the run, which had served.
-pub record IsHeldUp (o : Opening) (t : Table) (r : Route) (answers : Mode → Bool) (before now : List Entry) : Type 0 where
-  pub seats : List Seat
-  pub partition : IsPartition seats
+pub record IsHeldUp (o : Opening) (t : Table) (r : Route) (answers : Mode → Bool) (before now : List Entry) (seats : List Seat) : Type 0 where
   pub seat : Seat
   pub needed : Contains (needed t r seats) seat
   pub run : List Entry
@@ -117,11 +115,18 @@ pub record IsHeldUp (o : Opening) (t : Table) (r : Route) (answers : Mode → Bo
   pub in_place : shard.place ≡ record { keyspace = t.keyspace; range = seat.1 }
   pub held_up : answers (mode o run shard.slot) ≡ false
 
--- Why a query is refused: a growth was refused; or the buffer was full when one of its shards didn't serve.
+-- A statement was held up so by some partition of its keyspace, each of whose shards was found.
+pub record IsHeldUpBy (o : Opening) (t : Table) (r : Route) (answers : Mode → Bool) (before now : Run) : Type 0 where
+  pub seats : List Seat
+  pub found : IsFoundPartition o before now t.keyspace seats
+  pub held_up : IsHeldUp o t r answers before now seats
+
+-- Why a query is refused: a growth was refused; or the buffer was full when one of its shards didn't serve, by a partition of its keyspace
+-- whose shards were found.
 pub data MayReadRefuse (o : Opening) (p : PassView Entry) (query : Query) : Refusal → PassView Entry → Type 0 where
   no_memory : {now : PassView Entry} → HasGone o p now → MayReadRefuse o p query OutOfMemory now
   buffer_full : {now : PassView Entry} → HasGone o p now
-      → IsHeldUp o (table_at o.schema query.table) (route_of (table_at o.schema query.table) query.join query.filter) answers_queries p.seen now.seen
+      → IsHeldUpBy o (table_at o.schema query.table) (route_of (table_at o.schema query.table) query.join query.filter) answers_queries p.seen now.seen
       → MayReadRefuse o p query BufferFull now
 
 -- the seats that a write needs by a partition
@@ -168,15 +173,15 @@ pub data IsShardRefusal (o : Opening) (limits : Limits) (s : ShardRecord) (run :
   full : (changes : List RowChange) → changes_of o.schema w (shard_rows o run s) ≡ Ok changes → (HasRoom o limits s run changes → ⊥)
       → IsShardRefusal o limits s run w ShardFull
 
--- Why a write is refused: a growth was refused; by a partition of its keyspace, whose shards were found, it needs more than one; the buffer was
--- full when its shard took no commits; or its one shard, which serves at a look and isn't frozen, refuses it.
+-- Why a write is refused: a growth was refused; by a partition of its keyspace, whose shards were found, it needs more than one, or the shard
+-- that it needs took no commits when the buffer was full; or its one shard, which serves at a look and isn't frozen, refuses it.
 pub data MayWriteRefuse (o : Opening) (limits : Limits) (p : PassView Entry) (w : Write) : Refusal → PassView Entry → Type 0 where
   no_memory : {now : PassView Entry} → HasGone o p now → MayWriteRefuse o limits p w OutOfMemory now
   several : {now : PassView Entry} (seats : List Seat)
       → IsFoundPartition o p.seen now.seen (table_at o.schema (written_table w)).keyspace seats → 2 ≤ length (needed_by o w seats)
       → HasGone o p now → MayWriteRefuse o limits p w SeveralShards now
   buffer_full : {now : PassView Entry} → HasGone o p now
-      → IsHeldUp o (table_at o.schema (written_table w)) (write_route o.schema w) is_writable p.seen now.seen
+      → IsHeldUpBy o (table_at o.schema (written_table w)) (write_route o.schema w) is_writable p.seen now.seen
       → MayWriteRefuse o limits p w BufferFull now
   refused : {r : Refusal} {since now : PassView Entry} (s : ShardRecord) → WritesAlone o w s → HasGone o p since → HasLooked o s.slot since now
       → HasServed o now.seen s → mode o now.seen s.slot ≡ Serving → IsShardRefusal o limits s now.seen w r → MayWriteRefuse o limits p w r now

@@ -11,7 +11,7 @@ mod transactions;
 mod tx;
 
 pub use gate::{Gate, Open};
-pub use parts::{look_at_each, only_needed, shard_of};
+pub use parts::{find_partition, look_at_each, only_needed, shard_of};
 pub use pieces::{Piece, piece_for};
 pub use planner::{Plan, Route, is_answer, is_plain, plan, point_route, route_of, write_route};
 pub use reply::{Answer, Reply, Selected, ShardRead, Tried, counted};

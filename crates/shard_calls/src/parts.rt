@@ -1,13 +1,14 @@
 //! Which parts of a partition a statement needs.
-ghost use Rattle.std.specs.Prelude.{◌≡◌, ◌≤◌, ◌∷◌, [], IfOk, IfErr, MatchOption, length};
+ghost use Rattle.std.specs.Prelude.{ℕ, ◌≡◌, ◌≤◌, ◌∷◌, [], IfOk, IfErr, MatchOption, length};
 ghost use Rattle.std.specs.List.{AllByRecursion};
 ghost use Rattle.journal.specs.Runs.{IsLegal};
 ghost use Rattle.shard.specs.Entries.{MayFollow};
-ghost use Rattle.shard_calls.specs.Answers.{needed, HasGone, WasFound};
+ghost use Rattle.serving.specs.Partitions.{AreOf};
+ghost use Rattle.shard_calls.specs.Answers.{needed, HasGone, WasFound, IsFoundPartition};
 
 use journal::Naming;
 use planner::{Route, single_id, takes_by};
-use serving::{Seated, ShardReference};
+use serving::{Partition, Seated, ShardReference};
 use shard::{Shard, ShardPass, World};
 use std::sync::Wait;
 use vschema::Table;
@@ -58,4 +59,17 @@ pub fn look_at_each<W: World, J: Naming>(
     for part in parts {
         shard_of(part).look(rt, pass);
     }
+}
+
+/// Looks at each shard of a partition by which a statement is refused: so its cause is of shards that were there in the call. Takes no memory.
+pub fn find_partition<W: World, J: Naming>(
+    rt: &impl Wait,
+    pass: &mut ShardPass<W, J>,
+    partition: &Partition<Shard<W, J>>,
+)
+    requires legal { IsLegal (MayFollow W.opening) pass.old.seen }
+    ensures found { (keyspace : ℕ) → AreOf keyspace partition.now → IsFoundPartition W.opening pass.old.seen pass.new.seen keyspace partition.now }
+    ensures gone { HasGone W.opening pass.old pass.new }
+{
+    look_at_each(rt, pass, partition.parts());
 }

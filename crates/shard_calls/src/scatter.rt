@@ -346,7 +346,7 @@ pub fn read_alone<W: World, J: Naming, G: Gate>(
     ensures ok { IfOk result (λ r. IfSome r (λ g. (t : WrittenTable) (plan : WrittenPlan) (seats : List Seat) → IsPieceAlone t plan seats part.now query.now
         → IsScattered W.opening t plan pass.old (g.rows ∷ []) g.reads pass.new)) }
     ensures stalled { IfOk result (λ r. IfNone r ((t : WrittenTable) (plan : WrittenPlan) (seats : List Seat) → IsPieceAlone t plan seats part.now query.now
-        → IsHeldUp W.opening t plan.route answers_queries pass.old.seen pass.new.seen)) }
+        → IsHeldUp W.opening t plan.route answers_queries pass.old.seen pass.new.seen seats)) }
 {
     let shard = shard_of(part);
     let slot = shard.slot();

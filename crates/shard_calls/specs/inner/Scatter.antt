@@ -188,9 +188,9 @@ tried (c.Count n) = Done n
 tried (c.Frozen w) = Again w
 tried (c.NotServing w) = Again w
 
--- What one try to commit a write gives: it is written; or its one shard took no commits at a look, and the write comes back.
-pub data IsTried (o : Opening) (limits : Limits) (p : PassView Entry) (w : Write) : Tried → PassView Entry → Type 0 where
+-- What one try to commit a write by a partition gives: it is written; or its one shard took no commits at a look, and the write comes back.
+pub data IsTried (o : Opening) (limits : Limits) (seats : List Seat) (p : PassView Entry) (w : Write) : Tried → PassView Entry → Type 0 where
   written : {count : ℕ} {now : PassView Entry} → HasWritten o limits p w (record { answer = Count count; reads = [] }) now
-      → IsTried o limits p w (Done count) now
+      → IsTried o limits seats p w (Done count) now
   again : {now : PassView Entry} → HasGone o p now
-      → IsHeldUp o (table_at o.schema (written_table w)) (write_route o.schema w) is_writable p.seen now.seen → IsTried o limits p w (Again w) now
+      → IsHeldUp o (table_at o.schema (written_table w)) (write_route o.schema w) is_writable p.seen now.seen seats → IsTried o limits seats p w (Again w) now

@@ -1,4 +1,6 @@
-use Rattle.std.proofs.Common.{[]}
+use Rattle.std.proofs.Common.{[], inr}
+use Rattle.shard_run.specs.Runs.{answers_queries}
+use Rattle.shard_calls.proofs.Finding.{held_up_by, held_up_since}
 use Rattle.shard_calls.proofs.Gathers.{stays}
 use Rattle.route_engine.proofs.Selecting.{gone_on}
 use Rattle.route_engine.proofs.Scattering.{scattered_after}
@@ -34,7 +36,19 @@ returns-in-Some-2-clause-ok g c =
     }
 
 pub loop-preserved : goal.loop-preserved
-loop-preserved g c = record { next = tt; finite = tt; tried = c.in_ok-next_attempt.ensures.ok; gone = gone_on _ _ _ _ c.loop.invariant.gone c.answer_by.ensures.gone }
+loop-preserved g c = record { next = tt; finite = tt; tried = c.in-Ok.ensures.ok; gone = gone_on _ _ _ _ c.loop.invariant.gone c.answer_by.ensures.gone }
 
-pub returns-in_err-next_attempt-clause-gone : goal.returns-in_err-next_attempt-clause-gone
-returns-in_err-next_attempt-clause-gone g c = gone_on _ _ _ _ c.loop.invariant.gone c.answer_by.ensures.gone
+pub returns-in-Err-clause-gone : goal.returns-in-Err-clause-gone
+returns-in-Err-clause-gone g c = gone_on _ _ _ _ c.loop.invariant.gone (gone_on _ _ _ _ c.answer_by.ensures.gone c.find_partition.ensures.gone)
+
+pub returns-in-Err-clause-err : goal.returns-in-Err-clause-err
+returns-in-Err-clause-err g c =
+    let held = rw c.in_default.is at c.in_ok-answered.ensures.stalled in
+    inr (
+      c.into.ensures,
+      held_up_since g.W.World.opening c.args.table.now c.args.plan.now.route answers_queries c.args.pass.now.seen c.loop.pass.seen c.find_partition.new.pass.seen
+          c.loop.invariant.gone.1.later
+          (held_up_by g.W.World.opening c.args.table.now c.args.plan.now.route answers_queries c.loop.pass.seen c.answer_by.new.pass.seen c.find_partition.new.pass.seen
+          c.partition_to_try-partition.result.now c.answer_by.ensures.gone.1.later c.find_partition.ensures.gone.1.later held
+          (c.find_partition.ensures.found _ c.partition_to_try-partition.ensures)),
+    )

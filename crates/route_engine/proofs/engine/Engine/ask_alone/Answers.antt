@@ -1,8 +1,5 @@
 use Rattle.std.proofs.Common.{[], sym, ◌∙◌}
-use Rattle.std.specs.Prelude.{List}
 use Rattle.shard_calls.proofs.Gathers.{stays}
-use Rattle.serving.specs.Partitions.{Seat}
-use Rattle.shard_calls.specs.inner.Scatter.{IsPieceAlone}
 use Rattle.route_engine.proofs.Scattering.{of_keyspace, some_too, none_too}
 use Rattle.route_engine.proofs.engine.Engine.ask_alone.Goals as goal
 

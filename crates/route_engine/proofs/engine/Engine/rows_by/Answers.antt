@@ -1,4 +1,4 @@
-use Rattle.std.proofs.Common.{Some, inl, inr, refl, subst}
+use Rattle.std.proofs.Common.{inl, inr, refl, subst}
 use Rattle.std.specs.List.{AllByRecursion}
 use Rattle.std.proofs.lemmas.Result.{err_from_is_err_and}
 use Rattle.shard_calls.specs.Answers.{WasFound}

@@ -1,9 +1,8 @@
-use Rattle.std.proofs.Common.{List, get_or, [], ◌<◌, ◌≡◌, length, sym, ap, subst, ◌∙◌, arith}
+use Rattle.std.proofs.Common.{List, get_or, ◌<◌, ◌≡◌, length, sym, ap, subst, ◌∙◌, arith}
 use Rattle.std.proofs.lemmas.Result.{IfOk-weaker, IfErr-weaker}
 use Rattle.vschema.specs.declared.schema.Table.{Table}
 use Rattle.vschema.specs.declared.schema.VSchema.{VSchema}
 use Rattle.shard_calls.specs.Answers as a
-use Rattle.shard_calls.specs.Routes.{table_at}
 use Rattle.route_engine.proofs.Selecting.{is_table, read_after}
 use Rattle.route_engine.proofs.Formed.{keyspace_below}
 use Rattle.route_engine.proofs.Points.{point_read, refused_after}
