@@ -1,7 +1,6 @@
 -- Values in their order.
-use Rattle.std.proofs.Common.{◌≡◌, ℕ, suc, ◌+◌, ◌<◌, length, false, List, [], ◌∷◌, map, get_or, Bor, refl, sym, ap, ◌∙◌, subst, arith}
+use Rattle.std.proofs.Common.{◌≡◌, suc, ◌+◌, false, List, [], ◌∷◌, map, get_or, Bor, sym, ap, ◌∙◌, subst, arith}
 use Rattle.std.specs.Prelude.{IsSorted, IsPermutation}
-use Rattle.std.specs.List.{list_any}
 use Rattle.std.specs.List.Sorted.{IsSortedByClosure}
 use Rattle.std.specs.Fn.{Called}
 use Rattle.std.specs.Ordering.{is_eq, is_lt}

@@ -1,3 +1,5 @@
 pub mod Intervals
+pub mod Conjuncts
 pub mod Listed
+pub mod Directions
 pub mod inner

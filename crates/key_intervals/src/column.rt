@@ -153,8 +153,10 @@ fn narrow_by_each<'a>(members: &'a [Condition<usize>], column: usize, found: &mu
 }
 
 // Promise: Each row at which a condition is true has its values in the intervals that the condition's conjuncts give: a column's value between
-// two bounds, and its key from one list of values on and below another. No value lies between a value and the next one. Listed values are put in their order
-// With: key_interval, key_interval_with, next_value, sorted, comes_after
+// two bounds, and its key from one list of values on and below another. A column has one of the values to which they fix it, of the first row of a pair too.
+// The conjuncts of a condition on pairs that have columns of the first row alone are true at that row.
+// No value lies between a value and the next one. Listed values are put in their order
+// With: key_interval, key_interval_with, fixed_values, fixed_first, own_conjuncts, passes, next_value, sorted, comes_after
 /// An interval in which a column has its value in each row at which the condition is true: that of all conjuncts, also of nested ANDs, that compare the
 /// column with a literal.
 pub fn interval_of<'a>(condition: &'a Condition<usize>, column: usize) -> Interval<'a>

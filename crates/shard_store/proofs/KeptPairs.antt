@@ -9,7 +9,6 @@ use Rattle.vt_value.specs.declared.value.Value.{Value}
 use Rattle.vt_value.specs.declared.value.Value.TheVariants.{Null}
 use Rattle.vt_value.specs.declared.value.Comparison.TheVariants.{Eq}
 use Rattle.vt_value.specs.Values.{Row, value_at, compare, is_true}
-use Rattle.sql_eval.proofs.OrderLemmas.{value_cmp-same}
 use Rattle.sql_tree.specs.declared.Condition.{Condition}
 use Rattle.sql_eval.specs.Join.{Join}
 use Rattle.sql_eval.specs.Query.{Query}
@@ -18,15 +17,15 @@ use Rattle.sql_eval.specs.Sources.{is_pair, paired, pairs_of}
 use Rattle.sql_eval.specs.Conditions.{is_kept}
 use Rattle.sql_eval.specs.Queries.{Keyed, keyed_row, keyed_groups, kept_rows, IsAnswer}
 use Rattle.sql_eval.proofs.PairValues.{left_at, right_at}
-use Rattle.shard_store.specs.declared.equalities.Fixed.{Fixed}
-use Rattle.shard_store.specs.Chosen.{fits}
 use Rattle.shard_store.specs.Slots.{rows_in}
 use Rattle.shard_store.specs.Tables.{TableView, key_at}
-use Rattle.shard_store.specs.inner.Joined.{passes, has_value, StoredBy, stored_rows, stored_with, rows_lent}
+use Rattle.key_intervals.specs.Conjuncts.{passes}
+use Rattle.shard_store.specs.inner.Joined.{has_value, StoredBy, stored_rows, stored_with, rows_lent}
 use Rattle.sql_eval.specs.Groups.{CanBeSummed}
 use Rattle.sql_eval.proofs.DistinctRows.{filter_true}
 use Rattle.sql_eval.proofs.Pairs.{pairs_permuted}
-use Rattle.shard_store.proofs.KeptRows.{same_cmp, filter_twice}
+use Rattle.key_intervals.proofs.FixedLemmas.{same_cmp}
+use Rattle.shard_store.proofs.KeptRows.{filter_twice}
 
 pub no_seconds : (j : Join) (firsts : List Row) → pairs_of j firsts [] ≡ []
 no_seconds j [] = refl
@@ -145,10 +144,6 @@ null_is_alone j a first null (b ∷ rows) =
     let alone : is_pair j a b ≡ false = ap (λ (v : Value). is_true (compare Eq v (value_at (paired j a b) j.second))) value in
     rw alone (null_is_alone j a first null rows)
 
--- a column of the first row that the condition on pairs fixes
-pub fixed_of_first : (j : Join) (f : Fixed) (a b : Row) (c : ℕ) → c < j.width → fits f (value_at (paired j a b) c) ≡ true → fits f (value_at a c) ≡ true
-fixed_of_first j f a b c within e = subst (λ (v : Value). fits f v ≡ true) (left_at j.width a b c within) e
-
 -- the key of a pair is that of its first row, if its columns are all that row's
 pub key_of_first : (j : Join) (a b : Row) (cs : List ℕ) → list_all (λ n. nat_lt n j.width) cs ≡ true → key_at cs (paired j a b) ≡ key_at cs a
 key_of_first j a b [] h = refl
@@ -162,10 +157,3 @@ key_of_first j a b (c ∷ cs) h = by (key_of_first j a b cs) (nat_lt c j.width) 
         let others : key_at cs (paired j a b) ≡ key_at cs a = ih rest in
         (λ i. first i ∷ others i)
     by ih false e g = absurd (false≢true (sym (ap (λ t. t && list_all (λ n. nat_lt n j.width) cs) e) ∙ g))
-
--- and that of the second row that it is equal to
-pub fixed_of_second : (j : Join) (f : Fixed) (a b : Row) (c : ℕ) → c < j.width → c ≡ j.first → is_pair j a b ≡ true
-    → fits f (value_at (paired j a b) j.second) ≡ true → fits f (value_at a c) ≡ true
-fixed_of_second j f a b c within is pair e =
-    let same = value_cmp-same (value_at (paired j a b) j.first) (value_at (paired j a b) j.second) (same_cmp (value_at (paired j a b) j.first) (value_at (paired j a b) j.second) pair) in
-    fixed_of_first j f a b c within (subst (λ n. fits f (value_at (paired j a b) n) ≡ true) (sym is) (subst (λ (v : Value). fits f v ≡ true) (sym same) e))

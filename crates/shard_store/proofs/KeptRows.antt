@@ -1,22 +1,10 @@
 -- What is read of the rows that a condition keeps, or of those that have a key, is what is read of all rows.
-use Rattle.std.proofs.Common.{◌≡◌, ℕ, zero, suc, ◌+◌, ◌<◌, ◌≤◌, Bool, true, false, cond, ◌||◌, List, [], ◌∷◌, ◌++◌, length, get_or, map, filter, flat_map, take, Result, Ok, Err, Option, Some, None, refl, sym, ap, ◌∙◌, subst, arith}
+use Rattle.std.proofs.Common.{◌≡◌, ℕ, zero, suc, ◌+◌, ◌<◌, ◌≤◌, Bool, true, false, cond, ◌||◌, List, [], ◌∷◌, ◌++◌, length, get_or, map, filter, flat_map, take, Ok, Err, Option, refl, sym, ap, ◌∙◌, subst, arith}
 use Rattle.std.specs.Prelude.{sum_by}
 use Rattle.std.specs.List.{list_any}
 use Rattle.std.proofs.lemmas.Bool.{false≢true}
 use Rattle.std.proofs.lemmas.List.Sums.{sum_by-cons}
-use Rattle.std.specs.Ordering.{is_eq, int_cmp, nat_cmp}
-use Rattle.std.specs.Cmp.Lexicographic.{slice_cmp}
-use Rattle.std.specs.declared.cmp.Ordering.{Ordering}
-use Rattle.std.specs.declared.cmp.Ordering.TheVariants.{Less, Equal, Greater}
-use Rattle.std.proofs.lemmas.Cmp.{tied_itself}
-use Rattle.vt_value.specs.declared.value.Value.{Value}
-use Rattle.vt_value.specs.declared.value.Value.TheVariants.{Null, Int, Bytes}
-use Rattle.vt_value.specs.declared.value.Comparison.TheVariants.{Eq}
-use Rattle.sql_eval.proofs.OrderLemmas.{value_cmp-same, value_cmp-total}
-use Rattle.sql_tree.specs.declared.Operand.{Operand}
-use Rattle.sql_tree.specs.declared.Operand.TheVariants.{Column, Literal}
-use Rattle.vt_value.specs.Values.{Row, value_at, value_cmp, is_true, is_null, truth_of, fits_order, compare, in_list}
-use Rattle.vt_value.specs.declared.value.Truth.TheVariants.{False, Unknown}
+use Rattle.vt_value.specs.Values.{Row}
 use Rattle.vt_value.specs.declared.refusal.Refusal.TheVariants.{DuplicateKey}
 use Rattle.sql_tree.specs.declared.Assignment.{Assignment}
 use Rattle.sql_tree.specs.declared.Condition.{Condition}
@@ -29,12 +17,11 @@ use Rattle.sql_eval.specs.RowChange.TheVariants.{Added, Replaced, Removed}
 use Rattle.sql_eval.specs.Schema.{key_of}
 use Rattle.sql_eval.specs.Checks.{is_aggregated}
 use Rattle.sql_eval.specs.Database.{Database, same_row}
-use Rattle.sql_eval.specs.Conditions.{is_kept, operand_value}
+use Rattle.sql_eval.specs.Conditions.{is_kept}
 use Rattle.sql_eval.specs.Queries.{keyed_row, keyed_groups, kept_rows, IsAnswer}
 use Rattle.sql_eval.specs.Writes.{has_duplicate, assigned, row_updates, changes_over}
-use Rattle.sql_eval.proofs.RowLemmas.{has_key, has_duplicate-same}
+use Rattle.sql_eval.proofs.RowLemmas.{has_key}
 use Rattle.shard_store.specs.Tables.{key_at}
-use Rattle.key_intervals.specs.Listed.{is_among}
 use Rattle.shard_store.specs.Stores.{RowsView}
 
 -- ---- conditions
@@ -157,72 +144,6 @@ keys_same ordinals t row values at h (x ∷ xs) =
 pub nil_of : {X : Type 0} (xs : List X) (n : ℕ) → n ≡ length xs → n ≡ 0 → xs ≡ []
 nil_of [] n e z = refl
 nil_of (x ∷ xs) n e z = absurd (omega (arith, e, z))
-
--- ---- fixed columns
-
-is_equal : (o : Ordering) → is_true (truth_of (fits_order Eq o)) ≡ true → o ≡ Equal
-is_equal Less e = cc
-is_equal Equal e = refl
-is_equal Greater e = cc
-
-pub same_cmp : (a b : Value) → is_true (compare Eq a b) ≡ true → value_cmp a b ≡ Equal
-same_cmp Null b e = cc
-same_cmp (Int m) Null e = cc
-same_cmp (Int m) (Int n) e = is_equal (int_cmp m n) e
-same_cmp (Int m) (Bytes t) e = cc
-same_cmp (Bytes s) Null e = cc
-same_cmp (Bytes s) (Int n) e = cc
-same_cmp (Bytes s) (Bytes t) e = is_equal (slice_cmp nat_cmp s t) e
-
-equal_turned : (a b : Value) → is_true (compare Eq a b) ≡ true → is_eq (value_cmp b a) ≡ true
-equal_turned a b e =
-    let same = value_cmp-same a b (same_cmp a b e) in
-    subst (λ (x : Value). is_eq (value_cmp b x) ≡ true) (sym same) (ap is_eq (tied_itself value_cmp-total b))
-
-pub fixed_left : (row : Row) (a b : Operand ℕ) (p c : ℕ) (v : Value) → a ≡ Column p → b ≡ Literal v → p ≡ c
-    → is_true (compare Eq (operand_value row a) (operand_value row b)) ≡ true → is_eq (value_cmp v (value_at row c)) ≡ true
-fixed_left row a b p c v is_a is_b same h =
-    let g : is_true (compare Eq (value_at row p) v) ≡ true =
-    subst (λ (x : Operand ℕ). is_true (compare Eq (value_at row p) (operand_value row x)) ≡ true) is_b
-    (subst (λ (x : Operand ℕ). is_true (compare Eq (operand_value row x) (operand_value row b)) ≡ true) is_a h) in
-    subst (λ n. is_eq (value_cmp v (value_at row n)) ≡ true) same (equal_turned (value_at row p) v g)
-
-either : (a b : Bool) → b ≡ true → (a || b) ≡ true
-either true b e = refl
-either false b e = e
-
-unlisted : (x : Value) (members : List Value) → list_any (λ m. is_true (compare Eq x m)) members ≡ false → is_true (in_list x members) ≡ false
-unlisted x members none = by (is_null x || list_any is_null members) (simp none)
-  where
-    by : (b : Bool) → in_list x members ≡ cond b Unknown False → is_true (in_list x members) ≡ false
-    by true e = ap is_true e
-    by false e = ap is_true e
-
-equal_each : (x : Value) (ms : List Value) → list_any (λ m. is_true (compare Eq x m)) ms ≡ true → is_among ms x ≡ true
-equal_each x [] e = absurd (false≢true e)
-equal_each x (m ∷ ms) e = by (equal_each x ms) (is_true (compare Eq x m)) refl e
-  where
-    by : (list_any (λ m. is_true (compare Eq x m)) ms ≡ true → is_among ms x ≡ true) → (b : Bool) → is_true (compare Eq x m) ≡ b
-        → (is_true (compare Eq x m) || list_any (λ m. is_true (compare Eq x m)) ms) ≡ true → (is_eq (value_cmp m x) || is_among ms x) ≡ true
-    by ih true t g =
-        let f : is_eq (value_cmp m x) ≡ true = equal_turned x m t in
-        ap (λ b. b || is_among ms x) f
-    by ih false t g =
-        let f : list_any (λ m. is_true (compare Eq x m)) ms ≡ true = rw t at g in
-        either (is_eq (value_cmp m x)) (is_among ms x) (ih f)
-
-equal_among : (x : Value) (members : List Value) → is_true (in_list x members) ≡ true → is_among members x ≡ true
-equal_among x members h = by (list_any (λ m. is_true (compare Eq x m)) members) refl
-  where
-    by : (b : Bool) → list_any (λ m. is_true (compare Eq x m)) members ≡ b → is_among members x ≡ true
-    by true t = equal_each x members t
-    by false t = absurd (false≢true (sym (unlisted x members t) ∙ h))
-
-pub listed : (row : Row) (a : Operand ℕ) (p c : ℕ) (members : List Value) → a ≡ Column p → p ≡ c
-    → is_true (in_list (operand_value row a) members) ≡ true → is_among members (value_at row c) ≡ true
-listed row a p c members is same h =
-    subst (λ n. is_among members (value_at row n) ≡ true) same
-    (equal_among (value_at row p) members (subst (λ (x : Operand ℕ). is_true (in_list (operand_value row x) members) ≡ true) is h))
 
 -- ---- counts
 

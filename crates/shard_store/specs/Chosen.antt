@@ -1,19 +1,10 @@
 -- The rows that a condition chooses to be looked at.
-use Rattle.std.specs.Prelude.{Bool, List, ◌++◌, option_to_list, option_copied}
-use Rattle.std.specs.Ordering.{is_eq}
-use Rattle.vt_value.specs.declared.value.Value.{Value}
-use Rattle.vt_value.specs.Values.{Row, value_cmp}
-use Rattle.shard_store.specs.declared.equalities.Fixed.{Fixed}
-use Rattle.shard_store.specs.declared.equalities.Fixed.TheVariants.{One, Among as OneOf}
+use Rattle.std.specs.Prelude.{List, ◌++◌, option_to_list, option_copied}
+use Rattle.vt_value.specs.Values.{Row}
 use Rattle.shard_store.specs.declared.walk.ChosenSlots.{ChosenSlots}
 use Rattle.shard_store.specs.declared.walk.ChosenSlots.TheVariants.{All, Between, Among}
 use Rattle.shard_store.specs.declared.walk.ChosenRows.{ChosenRows}
 use Rattle.shard_store.specs.declared.walk.RowsAt.{RowsAt}
-use Rattle.key_intervals.specs.Listed.{is_among}
-
-abbrev pub fits : Fixed → Value → Bool
-fits (One v) x = is_eq (value_cmp v.now x)
-fits (OneOf values) x = is_among values.now x
 
 -- those in slots
 abbrev pub slots_chosen : ChosenSlots → List Row

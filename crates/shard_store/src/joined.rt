@@ -6,11 +6,11 @@ ghost use Rattle.sql_eval.specs.Sources.{is_pair, pairs_of};
 ghost use Rattle.sql_eval.specs.Groups.{CanBeSummed};
 ghost use Rattle.sql_eval.specs.Pairs.{seen};
 ghost use Rattle.sql_eval.specs.Queries.{IsAnswer};
-ghost use Rattle.shard_store.specs.inner.Joined.{passes};
+ghost use Rattle.key_intervals.specs.Conjuncts.{passes};
 ghost use Rattle.shard_store.specs.inner.Partners.{current_pairs};
 
 use crate::by_value::{RowsByValue, RowsFound};
-use crate::pushdown::{own_conjuncts, passes};
+use key_intervals::{own_conjuncts, passes};
 use sql_eval::{
     Join, PairSource, Query, RowSource, Seen, copy_seen, is_pair, select_local, select_pairs,
 };
@@ -103,7 +103,7 @@ fn next_of_partners<'a, 'b>(join: Join, partners: &mut Option<Partners<'a, 'b>>)
 impl<'a, 'b, S: RowSource<'a>> PairSource<'a> for JoinedPairs<'a, 'b, S> {
     ghost use Rattle.std.specs.Prelude.{◌++◌, filter};
     ghost use Rattle.sql_eval.specs.Sources.{pairs_of};
-    ghost use Rattle.shard_store.specs.inner.Joined.{passes};
+    ghost use Rattle.key_intervals.specs.Conjuncts.{passes};
     ghost use Rattle.shard_store.specs.inner.Partners.{current_pairs};
 
     ghost to_come = { λ p. current_pairs p.join p.partners ++ pairs_of p.join (filter (passes p.own.items) (S.to_come p.firsts)) p.seconds.now.rows };

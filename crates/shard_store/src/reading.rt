@@ -16,10 +16,10 @@ ghost use Rattle.sql_eval.specs.RowChange.TheVariants.{Removed};
 ghost use Rattle.shard_store.specs.Slots.{rows_in};
 ghost use Rattle.shard_store.specs.Tables.{key_at, begins_with};
 ghost use Rattle.shard_store.specs.inner.Stores.{IsInsertOf};
-ghost use Rattle.shard_store.specs.Chosen.{fits, slots_chosen, rows_chosen, rows_at};
+ghost use Rattle.key_intervals.specs.Listed.{fits};
+ghost use Rattle.shard_store.specs.Chosen.{slots_chosen, rows_chosen, rows_at};
 ghost use Rattle.shard_store.specs.inner.Chosen.{lies_between};
 
-use crate::equalities::{Fixed, fixed_values};
 use crate::primary::are_key_ordinals;
 use crate::shared_row::SharedRows;
 use crate::slots::key_of_value;
@@ -28,10 +28,10 @@ use crate::stored::StoredTables;
 use crate::table::StoredTable;
 use crate::table_rows::TableRows;
 use crate::walk::{AllRows, ChosenRows, ChosenSlots, RowsAt};
-use key_intervals::{KeyInterval, key_interval};
+use key_intervals::{Fixed, KeyInterval, fixed_values, key_interval};
 use sql_eval::{
-    Query, RowChange, Table, Write, all_kept, change_local, removals_from, select_from,
-    select_local, updates_from,
+    Query, RowChange, Table, Write, all_kept, change_local, counts_all, removals_from,
+    select_count, select_from, select_local, updates_from,
 };
 use sql_tree::{Assignment, Condition};
 use std::alloc::{AllocError, Global};
@@ -234,8 +234,14 @@ impl TableRows {
         requires summed { is_aggregated query.now ≡ true → CanBeSummed self.now.rows }
         ensures ok { IfOk result (IsAnswer query.now self.now.rows) }
     {
+        if counts_all(query) {
+            return select_count(alloc, query, self.row_count());
+        }
         if let Some(found) = self.at(alloc, &query.filter)? {
             return select_from(alloc, query, found);
+        }
+        if let Some(list) = self.select_in_key_order(alloc, query)? {
+            return Ok(list);
         }
         let rows = self.chosen(alloc, &query.filter)?;
         select_from(alloc, query, rows)

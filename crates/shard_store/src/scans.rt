@@ -2,7 +2,7 @@
 
 use crate::stored::StoredTables;
 use crate::table_rows::TableRows;
-use sql_eval::{Join, Query};
+use sql_eval::{Join, Query, counts_all};
 
 /// How many rows a query without a condition reads at most: no more than its LIMIT lets through, if any rows will do.
 pub fn rows_by_limit(query: &Query) -> usize {
@@ -23,14 +23,24 @@ impl TableRows {
         }
     }
 
+    // How many rows a query without a condition reads at most: those that its LIMIT lets through, if a walk by keys meets them in its order.
+    fn rows_walked(&self, query: &Query) -> usize {
+        match query.limit {
+            Some(limit) if !query.is_aggregated() && self.stored.direction(query).is_some() => {
+                limit.offset.saturating_add(limit.count) as usize
+            }
+            _ => usize::MAX,
+        }
+    }
+
     // Whether a query over these rows alone looks at more than so many.
     fn is_scanned(&self, query: &Query, most: usize) -> bool {
-        if self.row_count() <= most {
+        if self.row_count() <= most || counts_all(query) {
             return false;
         }
         match &query.filter {
             Some(_) => self.stored.first_values(&query.filter).is_none(),
-            None => rows_by_limit(query) > most,
+            None => self.rows_walked(query) > most,
         }
     }
 

@@ -1,12 +1,15 @@
 //! The rows of a table whose keys differ, each in the slot of its key.
-ghost use Rattle.std.specs.Prelude.{◌≡◌, ◌<◌, ◌^◌, ◌&&◌, not, ◌++◌, ◌∷◌, [], IsSome, IsTrue, IfOk, IfErr, OnOk, OnErr, IsPermutation, Some, None, List, option_to_list, option_copied, filter, length, slice_index, is_some, if◌then◌else◌};
+ghost use Rattle.std.specs.Prelude.{◌≡◌, ◌<◌, ◌^◌, ◌&&◌, not, ◌++◌, ◌∷◌, [], IsSome, IsTrue, IfOk, IfErr, OnOk, OnErr, IsPermutation, IfSome, IsSorted, Some, None, List, reverse, option_to_list, option_copied, filter, length, is_some, if◌then◌else◌};
 ghost use Rattle.std.specs.List.{AllByRecursion, list_any};
 ghost use Rattle.std.specs.List.Sorted.{IsStrictlySortedBy};
 ghost use Rattle.std.specs.Map.{keys_of};
 ghost use Rattle.vt_value.specs.declared.value.Value.{Value as V};
 ghost use Rattle.vt_value.specs.Values.{value_at};
 ghost use Rattle.sql_eval.specs.Database.{same_row, without};
+ghost use Rattle.sql_eval.specs.Orders.{row_cmp};
+ghost use Rattle.sql_eval.specs.Conditions.{is_kept};
 ghost use Rattle.key_intervals.specs.Intervals.{is_below};
+ghost use Rattle.key_intervals.specs.Directions.{walked};
 ghost use Rattle.shard_store.specs.Keys.{row_key_cmp};
 ghost use Rattle.shard_store.specs.Slots.{rows_in, slot_at, row_at, slots_from, with_slot, without_slot, is_before};
 ghost use Rattle.shard_store.specs.Tables.{key_at, has_key, begins_with, IsAtItsKey};
@@ -18,10 +21,10 @@ use crate::key::RowKey;
 use crate::key_values::KeyValues;
 use crate::shared_row::{SharedRow, SlotRow};
 use crate::slots::Slots;
-use crate::walk::{RowsBetween, RowsInOrder};
-use key_intervals::KeyInterval;
+use crate::walk::{RowsBack, RowsBetween, RowsInOrder};
+use key_intervals::{Direction, KeyInterval, walk_direction};
 use row_chunks::Walk;
-use sql_eval::Table;
+use sql_eval::{Query, Table};
 use std::alloc::{AllocError, Global};
 use std::marker::Model;
 use vt_value::{Items, Row, Value, copy};
@@ -221,6 +224,33 @@ impl StoredTable {
         let values = KeyValues::new(alloc, from)?;
         let below = key_below(alloc, below)?;
         Ok(self.slots.rows_between(first, &RowKey { values }, below))
+    }
+
+    /// The rows whose keys lie in an interval, in the reverse order of their keys. Refuses for want of memory.
+    pub(crate) fn rows_back(
+        &self,
+        alloc: Global,
+        keys: KeyInterval,
+    ) -> Result<RowsBack<'_>, AllocError>
+        ensures ok { IfOk result (λ rows. rows ≡ reverse (filter (λ row. lies_between None keys (key_at self.now.ordinals row)) (rows_in self.now.slots))) }
+    {
+        let _slots = self.slots.len();
+        let KeyInterval { from, below } = keys;
+        let values = KeyValues::new(alloc, from)?;
+        let below = key_below(alloc, below)?;
+        Ok(self.slots.rows_back(RowKey { values }, below))
+    }
+
+    /// The direction of a walk that meets the rows which a query's condition keeps in the order of its ORDER BY, if one does.
+    pub(crate) fn direction(&self, query: &Query) -> Option<Direction>
+        ensures { IfSome result (λ d. IsSorted (row_cmp query.now.order_by) (walked d (filter (is_kept query.now.filter) (rows_in self.now.slots)))) }
+    {
+        let _slots = self.slots.len();
+        walk_direction(
+            &query.filter,
+            self.ordinals.as_slice(),
+            query.order_by.as_slice(),
+        )
     }
 
     /// The row that has a key, if one has it.

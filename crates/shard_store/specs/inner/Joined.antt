@@ -1,12 +1,10 @@
 -- Rows that are looked up by a value, and which first rows of pairs are looked at.
 use Rattle.std.specs.Prelude.{◌≡◌, ◌<◌, ℕ, Bool, false, List, [], ◌∷◌, map, filter, length, slice_index, Option, Some, None}
 use Rattle.std.specs.Borrow.{Bor}
-use Rattle.std.specs.List.{AllByRecursion, list_all}
+use Rattle.std.specs.List.{AllByRecursion}
 use Rattle.std.specs.Ordering.{is_eq, is_lt}
 use Rattle.vt_value.specs.declared.value.Value.{Value}
-use Rattle.vt_value.specs.Values.{Row, value_at, value_cmp, is_true}
-use Rattle.sql_tree.specs.declared.Condition.{Condition}
-use Rattle.sql_eval.specs.Conditions.{truth_at}
+use Rattle.vt_value.specs.Values.{Row, value_at, value_cmp}
 use Rattle.shard_store.specs.Slots.{rows_in}
 use Rattle.shard_store.specs.Tables.{TableView, begins_with}
 use Rattle.shard_store.specs.Chosen.{slots_chosen}
@@ -20,10 +18,6 @@ pub record ColumnRows : Type 0 where
 -- the row has the value in the column
 abbrev pub has_value : ℕ → Value → Row → Bool
 has_value column v row = is_eq (value_cmp v (value_at row column))
-
--- each of the conditions is true at the row
-abbrev pub passes : List (Bor (Condition ℕ)) → Row → Bool
-passes own row = list_all (λ c. is_true (truth_at row c.now)) own
 
 -- the column is the first by whose values a table's rows are stored
 abbrev pub IsFirstKey : ℕ → List ℕ → Type 0

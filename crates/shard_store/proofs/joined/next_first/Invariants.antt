@@ -1,5 +1,5 @@
 use Rattle.std.proofs.Common.{◌≡◌, length, filter}
-use Rattle.shard_store.specs.inner.Joined.{passes}
+use Rattle.key_intervals.specs.Conjuncts.{passes}
 use Rattle.shard_store.proofs.joined.next_first.Given as goal
 
 -- no row that passes was passed over

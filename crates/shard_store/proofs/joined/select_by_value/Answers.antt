@@ -4,7 +4,7 @@ use Rattle.std.proofs.lemmas.Result.{IfOk-weaker}
 use Rattle.vt_value.specs.Values.{Row}
 use Rattle.sql_eval.specs.Groups.{CanBeSummed}
 use Rattle.sql_eval.specs.Queries.{IsAnswer}
-use Rattle.shard_store.specs.inner.Joined.{passes}
+use Rattle.key_intervals.specs.Conjuncts.{passes}
 use Rattle.shard_store.proofs.KeptPairs.{all_pass, answer_of_firsts}
 use Rattle.shard_store.proofs.joined.select_by_value.Goals as goal
 

@@ -1,6 +1,6 @@
 use Rattle.std.proofs.Common.{◌≡◌, ◌++◌, length, filter}
 use Rattle.sql_eval.specs.Sources.{pairs_of}
-use Rattle.shard_store.specs.inner.Joined.{passes}
+use Rattle.key_intervals.specs.Conjuncts.{passes}
 use Rattle.shard_store.specs.inner.Partners.{current_pairs}
 use Rattle.shard_store.proofs.joined.JoinedPairsPairSource.next_pair.Given as goal
 

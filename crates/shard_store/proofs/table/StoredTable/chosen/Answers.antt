@@ -3,11 +3,10 @@ use Rattle.std.specs.Prelude.{slice_index}
 use Rattle.vt_value.specs.Values.{Row, value_at}
 use Rattle.sql_tree.specs.declared.Condition.{Condition}
 use Rattle.sql_eval.specs.Conditions.{is_kept}
-use Rattle.key_intervals.specs.Listed.{is_among}
+use Rattle.key_intervals.specs.Listed.{is_among, fits}
 use Rattle.key_intervals.proofs.KeyLemmas.{some_of}
-use Rattle.shard_store.specs.declared.equalities.Fixed.{Fixed}
+use Rattle.key_intervals.specs.declared.equalities.Fixed.{Fixed}
 use Rattle.shard_store.specs.Slots.{rows_in}
-use Rattle.shard_store.specs.Chosen.{fits}
 use Rattle.shard_store.proofs.KeptRows.{filter_weaker}
 use Rattle.shard_store.proofs.table.StoredTable.chosen.Goals as goal
 

@@ -1,9 +1,9 @@
 use Rattle.std.proofs.Common.{◌≡◌, filter, subst, sym}
 use Rattle.std.specs.Prelude.{slice_index}
 use Rattle.vt_value.specs.Values.{value_at}
-use Rattle.shard_store.specs.declared.equalities.Fixed.{Fixed}
+use Rattle.key_intervals.specs.declared.equalities.Fixed.{Fixed}
 use Rattle.shard_store.specs.Slots.{rows_in}
-use Rattle.shard_store.specs.Chosen.{fits}
+use Rattle.key_intervals.specs.Listed.{fits}
 use Rattle.shard_store.proofs.table.StoredTable.chosen_of.Goals as goal
 
 pub returns-in_ok-rows-in-One : goal.returns-in_ok-rows-in-One

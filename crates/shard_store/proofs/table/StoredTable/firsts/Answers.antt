@@ -7,7 +7,8 @@ use Rattle.sql_eval.specs.Checks.{is_aggregated}
 use Rattle.sql_eval.specs.Conditions.{is_kept}
 use Rattle.key_intervals.proofs.KeyLemmas.{some_of}
 use Rattle.shard_store.specs.Slots.{rows_in}
-use Rattle.shard_store.specs.Chosen.{fits, slots_chosen}
+use Rattle.key_intervals.specs.Listed.{fits}
+use Rattle.shard_store.specs.Chosen.{slots_chosen}
 use Rattle.shard_store.proofs.KeptPairs.{kept_of_chosen}
 use Rattle.shard_store.proofs.table.StoredTable.firsts.Goals as goal
 

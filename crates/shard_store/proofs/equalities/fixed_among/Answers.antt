@@ -1,6 +1,0 @@
-use Rattle.shard_store.proofs.KeptRows.{listed}
-use Rattle.shard_store.proofs.equalities.fixed_among.Goals as goal
-
-pub returns-in-Column : goal.returns-in-Column
-returns-in-Column c = λ row h.
-    listed row c.args.a.now c.in-Column.ordinal c.args.column c.args.members.now c.in-Column.is c.if-ordinal-column.true h
