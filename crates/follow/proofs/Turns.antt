@@ -44,13 +44,14 @@ look_and_append o v ev here slot p looked now same look append =
     (looked_then (here ∷ []) [] p looked now (looked_at p looked here looked.seen (length looked.seen) look.pass) (appended_since looked now now.seen append.pass))
 
 -- the step of a shard by a look and an entry
-pub took : (o : Opening) (s : ShardRecord) (ev : Event) (p now : PassView Entry) → IsLegal (MayFollow o) p.seen
-    → (looked : PassView Entry) × HasLooked o s.slot p looked × HasAppended o (record { seen = looked.seen; shard = s }) ev looked now
-    → HasStepped o s ev p now × HasLookedAt (s.slot ∷ []) p now
-took o s ev p now legal w = (
-  stepped o p w.0 now (record { seen = w.0.seen; shard = s }) s ev (has_looked o p p w.0 s.slot (still o p legal) w.1) w.2 refl,
-  look_and_append o (record { seen = w.0.seen; shard = s }) ev s.slot s.slot p w.0 now refl w.1 w.2,
-)
+pub took : (o : Opening) (v : ShardView) (ev : Event) (p now : PassView Entry) → IsLegal (MayFollow o) p.seen
+    → (looked : PassView Entry) × HasLooked o v.shard.slot p looked × HasAppended o (record v { seen = looked.seen }) ev looked now
+    → HasStepped o v.shard ev p now × HasLookedAt (v.shard.slot ∷ []) p now
+took o v ev p now legal w =
+    let s = v.shard in (
+      stepped o p w.0 now (record v { seen = w.0.seen }) s ev (has_looked o p p w.0 s.slot (still o p legal) w.1) w.2 refl,
+      look_and_append o (record v { seen = w.0.seen }) ev s.slot s.slot p w.0 now refl w.1 w.2,
+    )
 
 -- one look, and nothing after it
 pub one_look : (p now : PassView Entry) (slot : ℕ) (run : Run) → now ≡ record p { seen = run; looks = p.looks ++ (slot, length run) ∷ [] } → IsOneLook slot p now

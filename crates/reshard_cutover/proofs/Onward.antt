@@ -51,7 +51,7 @@ pub changed : (o : Opening) (p q now : PassView Entry) (v : ShardView) (which : 
 changed o p q now v which ev on is same =
     let once = has_looked o p q is.twice.first v.shard.slot on is.twice.once in
     let again = has_looked o p is.twice.first is.looked v.shard.slot once is.twice.again in
-    stepped o p is.looked now (record { seen = is.looked.seen; shard = v.shard }) which ev again is.appended same
+    stepped o p is.looked now (record v { seen = is.looked.seen }) which ev again is.appended same
 
 -- an entry that isn't stored leaves what is stored
 pub stored_stays : (o : Opening) (v : ShardView) (ev : Event) (p now : PassView Entry) → HasAppended o v ev p now → is_stored ev ≡ false
@@ -81,7 +81,7 @@ pub stored_unchanged : (o : Opening) (v : ShardView) (ev : Event) (p now : PassV
     → stored_on v.shard.slot now.seen ≡ stored_on v.shard.slot v.seen
 stored_unchanged o v ev p now is plain =
     let slot = v.shard.slot in
-    stored_stays o (record { seen = is.looked.seen; shard = v.shard }) ev is.looked now is.appended plain
+    stored_stays o (record v { seen = is.looked.seen }) ev is.looked now is.appended plain
     ∙ stored_in slot is.looked.seen ∙ ap (filter (λ (x : Entry). is_stored x.event)) is.alone ∙ sym (stored_in slot v.seen)
 
 pub legal_front : (o : Opening) (early run : Run) → IsPrefix early run → Legal o run → Legal o early

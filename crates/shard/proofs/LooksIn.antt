@@ -34,7 +34,7 @@ use Rattle.shard_contents.proofs.Storable.{held_storable}
 use Rattle.shard_contents.specs.Limits.{Limits}
 use Rattle.shard_contents.specs.declared.contents.Contents.{Contents}
 use Rattle.shard_contents.specs.Entries.{MayFollow, slot_of, commit_of, ShardView}
-use Rattle.shard_contents.specs.Shards.{IsAfter}
+use Rattle.shard_contents.specs.Shards.{IsAfter, state_view}
 use Rattle.shard_contents.specs.Transactions.{PendingView, IsClear, IsPendingOf, HasWrittenIn, IsWriteRefusal, touched_with, entry_of}
 use Rattle.shard_contents.specs.Transactions as t
 use Rattle.shard_contents.proofs.Bags.{rows_all, all_applied-same}
@@ -80,7 +80,7 @@ added_is tx w n m k l a b tables stored changes =
 
 -- a shard's state after a look, at which the transaction was clear
 module _ (o : Opening) (most : Limits) (seat : SeatView Entry) (c : Contents) (is : IsAfter o most seat c) (v : ShardView)
-    (view_is : record { seen = seat.seen; shard = c.shard } ≡ v) (s : ShardRecord) (shards : v.shard ≡ s) (tx : PendingView) (clear_is : IsClear o s v.seen tx)
+    (view_is : state_view seat.seen c ≡ v) (s : ShardRecord) (shards : v.shard ≡ s) (tx : PendingView) (clear_is : IsClear o s v.seen tx)
     (legal_is' : IsLegal (MayFollow o) v.seen) where
   shard_is : c.shard ≡ s
   shard_is = ap (λ (x : ShardView). x.shard) view_is ∙ shards

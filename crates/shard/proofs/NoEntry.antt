@@ -18,7 +18,7 @@ use Rattle.shard_contents.proofs.Kept.{kept_none}
 use Rattle.shard_contents.proofs.KeptStored.{none_kept}
 use Rattle.shard_contents.proofs.StoredLogs.{count-stored}
 use Rattle.shard_contents.specs.Entries.{ShardView}
-use Rattle.shard_contents.specs.Shards.{Holds, Keeps, holds, dropped, IsAfter}
+use Rattle.shard_contents.specs.Shards.{Holds, Keeps, holds, dropped, IsAfter, state_view}
 
 -- what doesn't follow never follows again
 stays : (m : Mode) (event : Event) → (m ≡ Following → ⊥) → mode_after m event ≡ Following → ⊥
@@ -85,7 +85,7 @@ first_follows false is = refl
 first_follows true is = absurd (cc is)
 
 module _ (o : Opening) (most : Limits) (seat : SeatView Entry) (c : Contents) (v : ShardView) (after : IsAfter o most seat c)
-    (view : record { seen = seat.seen; shard = c.shard } ≡ v) (follows : c.mode ≡ Following) (stored : count_of c.stored.log ≡ 0) (steps : c.steps.items ≡ []) where
+    (view : state_view seat.seen c ≡ v) (follows : c.mode ≡ Following) (stored : count_of c.stored.log ≡ 0) (steps : c.steps.items ≡ []) where
   fresh_here : entries_on c.shard.slot seat.seen ≡ []
   fresh_here =
       let h = still_holds o most seat.seen c after.keeps follows in
@@ -119,7 +119,7 @@ not_dropped o most run c (dropped gone m) is = absurd (cc (sym m ∙ is))
 
 -- a target without an entry follows, and has neither stored an entry nor made a step
 module _ (o : Opening) (most : Limits) (seat : SeatView Entry) (c : Contents) (v : ShardView) (after : IsAfter o most seat c)
-    (view : record { seen = seat.seen; shard = c.shard } ≡ v) (none : entries_on v.shard.slot v.seen ≡ []) (target : is_opening o v.shard.slot ≡ false) where
+    (view : state_view seat.seen c ≡ v) (none : entries_on v.shard.slot v.seen ≡ []) (target : is_opening o v.shard.slot ≡ false) where
   none_here : entries_on c.shard.slot seat.seen ≡ []
   none_here = subst (λ (v : ShardView). entries_on v.shard.slot v.seen ≡ []) (sym view) none
 

@@ -16,7 +16,7 @@ use Rattle.shard_run.specs.Openings.{row_count}
 use Rattle.shard_contents.specs.Limits.{Limits}
 use Rattle.shard_contents.specs.declared.contents.Contents.{Contents}
 use Rattle.shard_contents.specs.Entries.{MayFollow, HasLooked, ShardView, slot_of, commit_of}
-use Rattle.shard_contents.specs.Shards.{IsAfter}
+use Rattle.shard_contents.specs.Shards.{IsAfter, state_view}
 use Rattle.shard_contents.specs.KeptEntries.{kept_of}
 use Rattle.shard_contents.specs.Transactions.{PendingView, IsClear, IsPendingOf, entry_of, IsCommitAllRefusal, HasCommittedAll}
 use Rattle.shard_contents.specs.inner.Transactions.{has_room_for, IsAllUnprepared}
@@ -36,7 +36,7 @@ pub record Left (o : Opening) (most : Limits) (s : ShardRecord) (seat' : SeatVie
 
 -- the state after the look, and how it is seen
 module _ (o : Opening) (most : Limits) (seat : SeatView Entry) (c : Contents) (is : IsAfter o most seat c) (v : ShardView)
-    (view_is : record { seen = seat.seen; shard = c.shard } ≡ v) (s : ShardRecord) (shards : v.shard ≡ s) (old : SeatView Entry) (p looked : PassView Entry)
+    (view_is : state_view seat.seen c ≡ v) (s : ShardRecord) (shards : v.shard ≡ s) (old : SeatView Entry) (p looked : PassView Entry)
     (tx : PendingView) (later : IsLater slot_of commit_of (MayFollow o) old p v.seen)
     (pass_is : looked ≡ record p { seen = v.seen; looks = p.looks ++ (s.slot, length v.seen) ∷ [] }) (tied_is : IsPendingOf o s tx p)
     (clear_is : IsClear o s v.seen tx) where

@@ -17,4 +17,4 @@ pub record HasChangedMode (o : Opening) (s : ShardView) (event : Event) (p now :
   pub looked : PassView Entry
   pub twice : HasLookedTwice o s.shard.slot p looked
   pub alone : entries_on s.shard.slot looked.seen ≡ entries_on s.shard.slot s.seen
-  pub appended : HasAppended o (record { seen = looked.seen; shard = s.shard }) event looked now
+  pub appended : HasAppended o (record s { seen = looked.seen }) event looked now

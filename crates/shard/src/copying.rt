@@ -1,5 +1,5 @@
 //! How a target takes over what its sources have: how far it has come with each, what a source has for it then, and the Copy.
-ghost use Rattle.std.specs.Prelude.{◌≡◌, ◌⊎◌, ◌<◌, ◌≤◌, ◌^◌, ◌&&◌, ◌||◌, ◌==◌, true, not, None, IsTrue, IfOk, IfSome, IfErr, OnOk, OnErr, MatchOption, filter, length, option_copied};
+ghost use Rattle.std.specs.Prelude.{◌≡◌, ◌⊎◌, ◌<◌, ◌≤◌, ◌^◌, ◌&&◌, ◌||◌, ◌==◌, ℕ, true, not, None, Some, IsSome, IsTrue, IfOk, IfSome, IfErr, OnOk, OnErr, MatchOption, filter, length, option_copied};
 ghost use Rattle.std.specs.List.{AllByRecursion};
 ghost use Rattle.vt_value.specs.Values as values;
 ghost use Rattle.vschema.specs.WellFormed.{is_vschema};
@@ -301,7 +301,9 @@ impl<W: World, J: Naming> ShardState<W, J> {
         requires legal { IsLegal (MayFollow W.opening) self.old.seen }
         requires there { next.now.table < length schema.now.tables }
         ensures copy { IfOk result (λ c. (c.table ≡ next.now.table) × IsCopyFor W.opening self.old.seen self.old.shard place.now next.now.after c) }
-        ensures unchanged { self.new ≡ self.old }
+        ensures unchanged { self.new ≡ record self.old { kept_from = self.new.kept_from } }
+        ensures followed { IsSome self.new.kept_from }
+        ensures kept { (n : ℕ) → self.old.kept_from ≡ Some n → self.new.kept_from ≡ Some n }
     {
         let source = self.slot();
         let stored = self.stored();
@@ -331,7 +333,9 @@ impl<W: World, J: Naming> ShardState<W, J> {
         requires schema { schema.now ≡ W.opening.schema }
         requires serves { answers_queries (mode W.opening self.old.seen self.old.shard.slot) ≡ true }
         requires there { table < length schema.now.tables }
-        ensures unchanged { self.new ≡ self.old }
+        ensures unchanged { self.new ≡ record self.old { kept_from = self.new.kept_from } }
+        ensures followed { IsSome self.new.kept_from }
+        ensures kept { (n : ℕ) → self.old.kept_from ≡ Some n → self.new.kept_from ≡ Some n }
     {
         let declared = &schema.tables.as_slice()[table];
         let contents = &mut self.contents;
@@ -360,10 +364,14 @@ impl<W: World, J: Naming> ShardState<W, J> {
         self.sorted.clear();
     }
 
+    // Promise: What a shard's entries change is kept from the time on when rows are first sorted or copied from it, until `unfollow`; its rows are
+    // kept until it is retired and `drop_rows`. Each of these two gives them up, and no other call does
+    // With: ShardState::{drop_rows, sort_some, look}
+    // Clauses: same, unchanged, followed, kept
     /// Gives up what it keeps for targets, as when none of them follows it any more: what its entries changed, and the tables in order. Takes
     /// no memory.
     pub fn unfollow(&mut self)
-        ensures { self.new ≡ self.old }
+        ensures { self.new ≡ record self.old { kept_from = None } }
     {
         self.sorted.clear();
         self.contents.stored.unfollow();
@@ -383,7 +391,7 @@ impl<W: World, J: Naming> ShardState<W, J> {
         requires following { mode W.opening self.old.seen self.old.shard.slot ≡ Mode.Following }
         requires next { IsNextCopy W.opening pass.old.seen self.old taken }
         ensures copied { OnOk result ((looked : PassView Entry) × HasLooked W.opening self.old.shard.slot pass.old looked
-            × HasAppended W.opening (record { seen = looked.seen; shard = self.old.shard }) (Event.Copy taken) looked pass.new) }
+            × HasAppended W.opening (record self.old { seen = looked.seen }) (Event.Copy taken) looked pass.new) }
         ensures room { OnOk result (length (entries_on self.old.shard.slot self.old.seen) < 2 ^ 40) }
         ensures rows { OnOk result (row_count (shard_rows W.opening pass.new.seen self.old.shard) ≤ W.limits.rows) }
         ensures looked { OnErr result (HasLooked W.opening self.old.shard.slot pass.old pass.new) }
@@ -391,6 +399,7 @@ impl<W: World, J: Naming> ShardState<W, J> {
         ensures err { IfErr result (λ e. (e ≡ Refusal.OutOfMemory) ⊎ ((e ≡ Refusal.ShardFull) × PassesLimit W.opening W.limits pass.new.seen self.old.shard (Event.Copy taken))) }
         ensures seen { self.new.seen ≡ pass.new.seen }
         ensures shard { self.new.shard ≡ self.old.shard }
+        ensures same { self.new ≡ record self.old { seen = self.new.seen } }
     {
         // a target gives no rows, so it keeps no table in order
         self.sorted.clear();

@@ -1,5 +1,5 @@
 //! A retired shard gives up its rows.
-ghost use Rattle.std.specs.Prelude.{◌≡◌, []};
+ghost use Rattle.std.specs.Prelude.{◌≡◌, [], None};
 ghost use Rattle.shard_run.specs.Runs.{mode};
 ghost use Rattle.shard_contents.specs.inner.StoredLogs.{nothing_stored};
 
@@ -28,7 +28,7 @@ impl<W: World, J: Naming> ShardState<W, J> {
     /// Gives up the rows of a shard that is retired. Takes no memory.
     pub fn drop_rows(&mut self)
         requires retired { mode W.opening self.old.seen self.old.shard.slot ≡ Mode.Retired }
-        ensures { self.new ≡ self.old }
+        ensures { self.new ≡ record self.old { kept_from = None; tables = 0 } }
     {
         empty(&mut self.contents);
         self.sorted.clear();

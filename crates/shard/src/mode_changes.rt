@@ -20,6 +20,7 @@ impl<W: World, J: Naming> ShardState<W, J> {
         ensures looked { HasLookedTwice W.opening self.old.shard.slot pass.old pass.new }
         ensures seen { self.new.seen ≡ pass.new.seen }
         ensures shard { self.new.shard ≡ self.old.shard }
+        ensures same { self.new ≡ record self.old { seen = self.new.seen } }
         ensures mode { mode W.opening self.new.seen self.old.shard.slot ≡ mode W.opening self.old.seen self.old.shard.slot }
         ensures alone { entries_on self.old.shard.slot self.new.seen ≡ entries_on self.old.shard.slot self.old.seen }
         ensures later { IsPrefix pass.old.seen pass.new.seen }
@@ -39,6 +40,7 @@ impl<W: World, J: Naming> ShardState<W, J> {
         ensures entry { entries_on self.old.shard.slot self.new.seen ≡ entries_on self.old.shard.slot self.old.seen ++ record { shard = self.old.shard; event = Event.Freeze } ∷ [] }
         ensures seen { self.new.seen ≡ pass.new.seen }
         ensures shard { self.new.shard ≡ self.old.shard }
+        ensures same { self.new ≡ record self.old { seen = self.new.seen } }
     {
         self.look_twice(pass);
         let _ = append_event(
@@ -56,6 +58,7 @@ impl<W: World, J: Naming> ShardState<W, J> {
         ensures changed { HasChangedMode W.opening self.old Event.Thaw pass.old pass.new }
         ensures seen { self.new.seen ≡ pass.new.seen }
         ensures shard { self.new.shard ≡ self.old.shard }
+        ensures same { self.new ≡ record self.old { seen = self.new.seen } }
     {
         self.look_twice(pass);
         let _ = append_event(
@@ -74,6 +77,7 @@ impl<W: World, J: Naming> ShardState<W, J> {
         ensures changed { HasChangedMode W.opening self.old (Event.Retire targets) pass.old pass.new }
         ensures seen { self.new.seen ≡ pass.new.seen }
         ensures shard { self.new.shard ≡ self.old.shard }
+        ensures same { self.new ≡ record self.old { seen = self.new.seen } }
     {
         self.look_twice(pass);
         self.sorted.clear();
@@ -99,6 +103,7 @@ impl<W: World, J: Naming> ShardState<W, J> {
         ensures changed { HasChangedMode W.opening self.old Event.Serve pass.old pass.new }
         ensures seen { self.new.seen ≡ pass.new.seen }
         ensures shard { self.new.shard ≡ self.old.shard }
+        ensures same { self.new ≡ record self.old { seen = self.new.seen } }
     {
         self.look_twice(pass);
         let _ = append_event(

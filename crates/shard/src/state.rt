@@ -31,7 +31,8 @@ use vschema::{Place, Query, VSchema, Write};
 use vt_value::{Items, Refusal, Row};
 
 /// What lies under a shard's lock: its rows, its mode and the entries that it stores, with the seat whose run says so.
-/// Contracts see a `ShardView`: which shard it is, and the run that its seat has seen.
+/// Contracts see a `ShardView`: which shard it is, the run that its seat has seen, from which stored entry on it has what they change, and of how
+/// many tables it has the rows.
 #[derive(Drop)]
 pub struct ShardState<W: World, J: Naming> {
     pub(crate) seat: ShardSeat<ShardLaw<W>, J>,
@@ -46,7 +47,7 @@ pub struct ShardState<W: World, J: Naming> {
 
 impl<W: World, J: Naming> Model for ShardState<W, J> {
     ghost use Rattle.shard_contents.specs.Entries.{ShardView};
-    ghost use Rattle.shard_contents.specs.Shards.{IsAfter, RetiredFor};
+    ghost use Rattle.shard_contents.specs.Shards.{IsAfter, RetiredFor, state_view};
     ghost use Rattle.shard_contents.specs.inner.Earlier.{AllHadRows};
     ghost use Rattle.std.specs.Coded.{codes};
     ghost use Rattle.shard_run.specs.contracts.Entry as entry;
@@ -56,7 +57,7 @@ impl<W: World, J: Naming> Model for ShardState<W, J> {
 
     ghost coded = { Prim.hlevel (codes, entry.the_row.coded, which.the_row.coded) };
 
-    ghost view = { λ s. record { seen = s.seat.seen; shard = s.contents.shard } };
+    ghost view = { λ s. state_view s.seat.seen s.contents };
 
     // What it holds is what the run that it has seen leaves on it, and the tables in order had their rows when they say.
     ghost invariant = { λ s. IsAfter W.opening W.limits s.seat s.contents × RetiredFor W.opening s.seat.seen s.contents.shard s.targets
@@ -154,6 +155,8 @@ impl<W: World, J: Naming> ShardState<W, J> {
         requires within { row_count store.rows ≤ limits.rows }
         ensures seen { result.seen ≡ seat.seen }
         ensures shard { result.shard ≡ shard }
+        ensures kept { result.kept_from ≡ None }
+        ensures tables { result.tables ≡ length store.rows }
     {
         let contents = Contents {
             shard,
@@ -267,6 +270,7 @@ impl<W: World, J: Naming> ShardState<W, J> {
         ensures seen { IsLater slot_of commit_of (MayFollow W.opening) (seat_view self.old) pass.old self.new.seen }
         ensures count { result ≡ length (entries_on self.old.shard.slot self.new.seen) }
         ensures shard { self.new.shard ≡ self.old.shard }
+        ensures same { self.new ≡ record self.old { seen = self.new.seen } }
         ensures stands { IsOnItsSlot W.opening self.new.seen self.old.shard }
         ensures mode { mode W.opening self.new.seen self.old.shard.slot ≡ mode W.opening self.old.seen self.old.shard.slot }
         ensures pass { pass.new ≡ record pass.old { seen = self.new.seen; looks = pass.old.looks ++ (self.old.shard.slot, length self.new.seen) ∷ [] } }
@@ -288,6 +292,7 @@ impl<W: World, J: Naming> ShardState<W, J> {
         ensures serves { answers_queries (mode W.opening self.new.seen self.old.shard.slot) ≡ true }
         ensures few { row_count (shard_rows W.opening self.new.seen self.old.shard) ≤ 2 ^ 20 }
         ensures shard { self.new.shard ≡ self.old.shard }
+        ensures same { self.new ≡ record self.old { seen = self.new.seen } }
         ensures stands { IsOnItsSlot W.opening self.new.seen self.old.shard }
         ensures pass { pass.new ≡ record pass.old { seen = self.new.seen; looks = pass.old.looks ++ (self.old.shard.slot, length self.new.seen) ∷ [] } }
     {
@@ -306,6 +311,7 @@ impl<W: World, J: Naming> ShardState<W, J> {
         ensures seen { IsLater slot_of commit_of (MayFollow W.opening) (seat_view self.old) pass.old self.new.seen }
         ensures snapshot { IfOk result (IsSnapshotAt W.opening self.new.seen self.old.shard) }
         ensures shard { self.new.shard ≡ self.old.shard }
+        ensures same { self.new ≡ record self.old { seen = self.new.seen } }
         ensures stands { IsOnItsSlot W.opening self.new.seen self.old.shard }
         ensures pass { pass.new ≡ record pass.old { seen = self.new.seen; looks = pass.old.looks ++ (self.old.shard.slot, length self.new.seen) ∷ [] } }
     {
@@ -324,6 +330,7 @@ impl<W: World, J: Naming> ShardState<W, J> {
         ensures seen { IsLater slot_of commit_of (MayFollow W.opening) (seat_view self.old) pass.old self.new.seen }
         ensures begun { IfOk result (HasBegunRead W.opening self.new.seen self.old.shard query.now) }
         ensures shard { self.new.shard ≡ self.old.shard }
+        ensures same { self.new ≡ record self.old { seen = self.new.seen } }
         ensures stands { IsOnItsSlot W.opening self.new.seen self.old.shard }
         ensures pass { pass.new ≡ record pass.old { seen = self.new.seen; looks = pass.old.looks ++ (self.old.shard.slot, length self.new.seen) ∷ [] } }
     {
@@ -353,6 +360,7 @@ impl<W: World, J: Naming> ShardState<W, J> {
         ensures seen { IsLater slot_of commit_of (MayFollow W.opening) (seat_view self.old) pass.old self.new.seen }
         ensures read { IfOk result (AnswersQuery W.opening self.new.seen self.old.shard query.now) }
         ensures shard { self.new.shard ≡ self.old.shard }
+        ensures same { self.new ≡ record self.old { seen = self.new.seen } }
         ensures stands { IsOnItsSlot W.opening self.new.seen self.old.shard }
         ensures pass { pass.new ≡ record pass.old { seen = self.new.seen; looks = pass.old.looks ++ (self.old.shard.slot, length self.new.seen) ∷ [] } }
     {
@@ -383,6 +391,7 @@ impl<W: World, J: Naming> ShardState<W, J> {
         ensures entry { OnOk result ((e : Entry) × (entries_on self.old.shard.slot self.new.seen ≡ entries_on self.old.shard.slot self.old.seen ++ e ∷ [])) }
         ensures alone { OnErr result (entries_on self.old.shard.slot self.new.seen ≡ entries_on self.old.shard.slot self.old.seen) }
         ensures shard { self.new.shard ≡ self.old.shard }
+        ensures same { self.new ≡ record self.old { seen = self.new.seen } }
         ensures stands { IsOnItsSlot W.opening self.new.seen self.old.shard }
     {
         let statement_id = StatementId {
@@ -427,6 +436,7 @@ impl<W: World, J: Naming> ShardState<W, J> {
         ensures seen { self.new.seen ≡ pass.new.seen }
         ensures later { IsPrefix self.old.seen self.new.seen }
         ensures shard { self.new.shard ≡ self.old.shard }
+        ensures same { self.new ≡ record self.old { seen = self.new.seen } }
         ensures stands { IsOnItsSlot W.opening self.new.seen self.old.shard }
     {
         match self.contents.mode {
@@ -460,7 +470,7 @@ impl<W: World, J: Naming> ShardState<W, J> {
         requires following { mode W.opening self.old.seen self.old.shard.slot ≡ Mode.Following }
         requires next { IsNext W.opening pass.old.seen self.old taken }
         ensures followed { OnOk result ((looked : PassView Entry) × HasLooked W.opening self.old.shard.slot pass.old looked
-            × HasAppended W.opening (record { seen = looked.seen; shard = self.old.shard }) (Event.Follow taken) looked pass.new) }
+            × HasAppended W.opening (record self.old { seen = looked.seen }) (Event.Follow taken) looked pass.new) }
         ensures room { OnOk result ((length (entries_on self.old.shard.slot self.old.seen) < 2 ^ 40) × (length (stored_on self.old.shard.slot self.old.seen) < W.limits.stored)) }
         ensures rows { OnOk result (SourcesApart W.opening pass.new.seen self.old.shard → row_count (shard_rows W.opening pass.new.seen self.old.shard) ≤ W.limits.rows) }
         ensures looked { OnErr result (HasLooked W.opening self.old.shard.slot pass.old pass.new) }
@@ -468,6 +478,7 @@ impl<W: World, J: Naming> ShardState<W, J> {
         ensures err { IfErr result (λ e. (e ≡ Refusal.OutOfMemory) ⊎ ((e ≡ Refusal.ShardFull) × PassesLimit W.opening W.limits pass.new.seen self.old.shard (Event.Follow taken))) }
         ensures seen { self.new.seen ≡ pass.new.seen }
         ensures shard { self.new.shard ≡ self.old.shard }
+        ensures same { self.new ≡ record self.old { seen = self.new.seen } }
     {
         // a target gives no rows, so it keeps no table in order
         self.sorted.clear();

@@ -46,6 +46,7 @@ impl<W: World, J: Naming> ShardState<W, J> {
         ensures clear { OnOk result (IsClear W.opening self.old.shard self.new.seen tx.now) }
         ensures err { IfErr result (IsStopped W.opening self.old.shard self.new.seen tx.now) }
         ensures shard { self.new.shard ≡ self.old.shard }
+        ensures same { self.new ≡ record self.old { seen = self.new.seen } }
         ensures stands { IsOnItsSlot W.opening self.new.seen self.old.shard }
         ensures pass { pass.new ≡ record pass.old { seen = self.new.seen; looks = pass.old.looks ++ (self.old.shard.slot, length self.new.seen) ∷ [] } }
     {
@@ -76,6 +77,7 @@ impl<W: World, J: Naming> ShardState<W, J> {
         ensures readable { IfOk result (λ b. IsToRead query.now tx.now.changes b.rows) }
         ensures err { IfErr result (IsReadRefusal W.opening self.old.shard self.new.seen tx.now) }
         ensures shard { self.new.shard ≡ self.old.shard }
+        ensures same { self.new ≡ record self.old { seen = self.new.seen } }
         ensures stands { IsOnItsSlot W.opening self.new.seen self.old.shard }
         ensures pass { pass.new ≡ record pass.old { seen = self.new.seen; looks = pass.old.looks ++ (self.old.shard.slot, length self.new.seen) ∷ [] } }
     {
@@ -113,6 +115,7 @@ impl<W: World, J: Naming> ShardState<W, J> {
         ensures unchanged { OnErr result (tx.new ≡ tx.old) }
         ensures err { IfErr result (IsReadRefusal W.opening self.old.shard self.new.seen tx.old) }
         ensures shard { self.new.shard ≡ self.old.shard }
+        ensures same { self.new ≡ record self.old { seen = self.new.seen } }
         ensures stands { IsOnItsSlot W.opening self.new.seen self.old.shard }
         ensures pass { pass.new ≡ record pass.old { seen = self.new.seen; looks = pass.old.looks ++ (self.old.shard.slot, length self.new.seen) ∷ [] } }
     {
@@ -140,6 +143,7 @@ impl<W: World, J: Naming> ShardState<W, J> {
         ensures unchanged { OnErr result (tx.new ≡ tx.old) }
         ensures err { IfErr result (IsWriteRefusal W.opening self.old.shard self.new.seen tx.old write) }
         ensures shard { self.new.shard ≡ self.old.shard }
+        ensures same { self.new ≡ record self.old { seen = self.new.seen } }
         ensures stands { IsOnItsSlot W.opening self.new.seen self.old.shard }
         ensures pass { pass.new ≡ record pass.old { seen = self.new.seen; looks = pass.old.looks ++ (self.old.shard.slot, length self.new.seen) ∷ [] } }
     {
@@ -175,6 +179,7 @@ impl<W: World, J: Naming> ShardState<W, J> {
         ensures seen { self.new.seen ≡ pass.new.seen }
         ensures later { IsPrefix self.old.seen self.new.seen }
         ensures shard { self.new.shard ≡ self.old.shard }
+        ensures same { self.new ≡ record self.old { seen = self.new.seen } }
         ensures stands { IsOnItsSlot W.opening self.new.seen self.old.shard }
     {
         let statement_id = StatementId {

@@ -47,7 +47,7 @@ use Rattle.shard_contents.specs.Kept.{keep, kept_from, kept_on}
 use Rattle.shard_contents.specs.KeptEntries.{kept_of, entries_kept}
 use Rattle.shard_law.specs.Entries as entries_of
 use Rattle.shard_law.specs.Entries.{ShardView, slot_of, commit_of}
-use Rattle.shard_contents.specs.Shards.{Holds, holds, Keeps, IsAfter, RetiredFor, beyond}
+use Rattle.shard_contents.specs.Shards.{Holds, holds, Keeps, IsAfter, RetiredFor, beyond, state_view}
 use Rattle.shard_contents.specs.Copying.{is_reached, is_left_to_copy, IsCopyFor, IsNextCopy, PassesLimit}
 use Rattle.shard_contents.specs.Copying as limits
 use Rattle.shard_contents.specs.inner.Copying.{has_room_to_copy}
@@ -207,7 +207,7 @@ dropped_next p xs i x there is fails =
 -- ---- what a source has
 
 -- what a state still has of its stored entries
-pub entry_told : (o : Opening) (most : Limits) (seen : Run) (c : Contents) (v : ShardView) → Keeps o most seen c → record { seen = seen; shard = c.shard } ≡ v
+pub entry_told : (o : Opening) (most : Limits) (seen : Run) (c : Contents) (v : ShardView) → Keeps o most seen c → state_view seen c ≡ v
     → (mode o v.seen v.shard.slot ≡ Rattle.shard_law.specs.Mode.TheVariants.Retired → ⊥) → (at : ℕ) (changes : List RowChange)
     → (c.stored.log.first ≤ at) × (slice_get c.stored.log.kept (at - c.stored.log.first) ≡ Some changes)
     → (e : Entry) × (slice_get (stored_on v.shard.slot v.seen) at ≡ Some e) × (kept_of e ≡ changes)
@@ -422,7 +422,7 @@ module _ (o : Opening) (most : Limits) (seat : SeatView Entry) (c : Contents) (i
 module _ {X : Type 0} (o : Opening) (most : Limits) (seat looked : SeatView Entry) (c : Contents) (targets : List ShardRecord) (p q : PassView Entry)
     (inv : IsAfter o most seat c × RetiredFor o seat.seen c.shard targets × X) (further : IsLater slot_of commit_of (entries_of.MayFollow o) seat p looked.seen)
     (seat_is : looked ≡ record seat { seen = looked.seen }) (pass_is : q ≡ record p { seen = looked.seen; looks = p.looks ++ (seat.slot, length looked.seen) ∷ [] })
-    (v : ShardView) (view : record { seen = seat.seen; shard = c.shard } ≡ v) (following : mode o v.seen v.shard.slot ≡ Following) (taken : C.Copied)
+    (v : ShardView) (view : state_view seat.seen c ≡ v) (following : mode o v.seen v.shard.slot ≡ Following) (taken : C.Copied)
     (next : IsNextCopy o p.seen v taken) where
   now_is : IsAfter o most looked c
   now_is = f.now_is o most seat looked c targets p q inv further seat_is pass_is v view following

@@ -27,7 +27,7 @@ use Rattle.shard_law.specs.declared.limits.Limits.{Limits}
 use Rattle.shard_contents.specs.declared.contents.Contents.{Contents}
 use Rattle.shard_law.specs.Entries as entries_of
 use Rattle.shard_law.specs.Entries.{ShardView, slot_of, commit_of}
-use Rattle.shard_contents.specs.Shards.{Holds, holds, IsAfter, IsNext, RetiredFor, beyond}
+use Rattle.shard_contents.specs.Shards.{Holds, holds, IsAfter, IsNext, RetiredFor, beyond, state_view}
 use Rattle.shard_contents.proofs.Commits.{applied-append}
 use Rattle.shard_contents.proofs.Legality.{stands-next, legal_is}
 use Rattle.shard_contents.proofs.Tables.{taken_there}
@@ -190,7 +190,7 @@ module _ (o : Opening) (most : Limits) (seat : SeatView Entry) (c : Contents) (i
 module _ {X : Type 0} (o : Opening) (most : Limits) (seat looked : SeatView Entry) (c : Contents) (targets : List ShardRecord) (p q : PassView Entry)
     (inv : IsAfter o most seat c × RetiredFor o seat.seen c.shard targets × X) (later : IsLater slot_of commit_of (entries_of.MayFollow o) seat p looked.seen)
     (seat_is : looked ≡ record seat { seen = looked.seen }) (pass_is : q ≡ record p { seen = looked.seen; looks = p.looks ++ (seat.slot, length looked.seen) ∷ [] })
-    (v : ShardView) (view : record { seen = seat.seen; shard = c.shard } ≡ v) (following : mode o v.seen v.shard.slot ≡ Following) where
+    (v : ShardView) (view : state_view seat.seen c ≡ v) (following : mode o v.seen v.shard.slot ≡ Following) where
   slot_same : looked.slot ≡ seat.slot
   slot_same = ap (λ (s : SeatView Entry). s.slot) seat_is
 

@@ -1,5 +1,6 @@
 mod ChangesSince
 pub mod StoredLogs
+pub mod Views
 pub mod Bags
 pub mod States
 pub mod Stores

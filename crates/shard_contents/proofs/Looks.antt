@@ -12,7 +12,7 @@ use Rattle.shard_law.specs.ShardRunRuns.{Run, Opening, mode, answers_queries, is
 use Rattle.shard_law.specs.declared.limits.Limits.{Limits}
 use Rattle.shard_contents.specs.declared.contents.Contents.{Contents}
 use Rattle.shard_law.specs.Entries.{slot_of, commit_of, MayFollow, HasLooked, ShardView}
-use Rattle.shard_contents.specs.Shards.{Keeps, holds, dropped, IsAfter}
+use Rattle.shard_contents.specs.Shards.{Keeps, holds, dropped, IsAfter, state_view}
 use Rattle.shard_contents.specs.Transactions.{PendingView, IsClear, IsStopped, is_conflict, conflict, moved}
 use Rattle.shard_contents.specs.KeptEntries.{entries_kept}
 use Rattle.shard_contents.specs.inner.LastChanges.{tells_conflict}
@@ -61,7 +61,7 @@ module _ (o : Opening) (most : Limits) (seat : SeatView Entry) (c : Contents) (i
   clear_is serves none = record { serving = serving_here serves; unchanged = tested serves ∙ none }
 
   -- as the shard's state is seen
-  module _ (v : ShardView) (view_is : record { seen = seat.seen; shard = c.shard } ≡ v) (s : ShardRecord) (shards : v.shard ≡ s) where
+  module _ (v : ShardView) (view_is : state_view seat.seen c ≡ v) (s : ShardRecord) (shards : v.shard ≡ s) where
     there : (P : ShardRecord → Run → Type 0) → P c.shard seat.seen → P s v.seen
     there P h =
         subst (λ (u : ShardRecord). P u v.seen) shards (subst (λ (x : ShardView). P x.shard x.seen) view_is h)

@@ -14,7 +14,7 @@ use Rattle.shard_contents.specs.declared.target_steps.TargetStep.TheVariants.{Fo
 use Rattle.shard_law.specs.declared.limits.Limits.{Limits}
 use Rattle.shard_contents.specs.declared.contents.Contents.{Contents}
 use Rattle.shard_law.specs.Entries.{ShardView}
-use Rattle.shard_contents.specs.Shards.{Holds, Keeps}
+use Rattle.shard_contents.specs.Shards.{Holds, Keeps, state_view}
 use Rattle.shard_contents.specs.inner.Shards.{is_plain}
 use Rattle.shard_contents.specs.Progress.{steps_of, steps_on, step_position}
 use Rattle.shard_contents.specs.inner.Progress.{source_of}
@@ -150,7 +150,7 @@ copy_kept source steps =
 
 -- ---- what a state tells
 
-module _ (o : Opening) (most : Limits) (seen : Run) (c : Contents) (v : ShardView) (keeps : Keeps o most seen c) (view : record { seen = seen; shard = c.shard } ≡ v)
+module _ (o : Opening) (most : Limits) (seen : Run) (c : Contents) (v : ShardView) (keeps : Keeps o most seen c) (view : state_view seen c ≡ v)
     (lives : mode o v.seen v.shard.slot ≡ Retired → ⊥) where
   has : Holds o most seen c
   has = holds_of o most seen c keeps (λ retired. lives (ap (λ (x : ShardView). mode o x.seen x.shard.slot) (sym view) ∙ retired))

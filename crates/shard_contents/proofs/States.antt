@@ -23,7 +23,7 @@ use Rattle.shard_contents.specs.Progress.{steps_of}
 use Rattle.shard_contents.specs.Kept.{kept_from, kept_on}
 use Rattle.shard_contents.specs.KeptEntries.{kept_of, entries_kept}
 use Rattle.shard_law.specs.Entries.{ShardView, slot_of, commit_of, MayFollow}
-use Rattle.shard_contents.specs.Shards.{RetiredFor, Holds, Keeps, holds, dropped, IsAfter, beyond}
+use Rattle.shard_contents.specs.Shards.{RetiredFor, Holds, Keeps, holds, dropped, IsAfter, beyond, state_view}
 use Rattle.shard_contents.proofs.Legality.{stands-same}
 use Rattle.shard_contents.specs.inner.StoredLogs.{given_up, HasStored}
 use Rattle.shard_contents.proofs.StoredLogs.{same_log, followed, unfollowed}
@@ -207,7 +207,7 @@ pub record Served (o : Opening) (most : Limits) (seat : SeatView Entry) (c : Con
 
 pub served : {X : Type 0} (o : Opening) (most : Limits) (old new : SeatView Entry) (p : PassView Entry) (c : Contents) (targets : List ShardRecord)
     → IsLater slot_of commit_of (MayFollow o) old p new.seen → new ≡ record old { seen = new.seen }
-    → IsAfter o most old c × RetiredFor o old.seen c.shard targets × X → (v : ShardView) → record { seen = old.seen; shard = c.shard } ≡ v
+    → IsAfter o most old c × RetiredFor o old.seen c.shard targets × X → (v : ShardView) → state_view old.seen c ≡ v
     → answers_queries (mode o v.seen v.shard.slot) ≡ true → Served o most new c
 served o most old new p c targets later seat is v view serves =
     let at = ap (λ (s : SeatView Entry). s.slot) seat in

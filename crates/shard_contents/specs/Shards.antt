@@ -1,5 +1,5 @@
 -- What is on a slot, which entry may come next, and what a shard's state says of them.
-use Rattle.std.specs.Prelude.{◌≡◌, ℕ, ◌+◌, ◌≤◌, ◌^◌, true, false, IsTrue, List, length, Contains, Some, slice_get}
+use Rattle.std.specs.Prelude.{◌≡◌, ℕ, ◌+◌, ◌≤◌, ◌^◌, true, false, IsTrue, List, length, Contains, Option, Some, None, slice_get, if◌then◌else◌}
 use Rattle.std.specs.List.{filter}
 use Rattle.vt_value.specs.Values.{Row}
 use Rattle.vschema.specs.declared.schema.Query.{Query}
@@ -19,12 +19,20 @@ use Rattle.shard_law.specs.Copies.{position, change_is_copied}
 use Rattle.shard_law.specs.declared.limits.Limits.{Limits}
 use Rattle.shard_contents.specs.Kept.{kept_on}
 use Rattle.shard_contents.specs.KeptEntries.{entries_kept}
-use Rattle.shard_contents.specs.inner.StoredLogs.{HasStored}
+use Rattle.shard_contents.specs.inner.StoredLogs.{StoredLog, HasStored}
 use Rattle.shard_contents.specs.declared.contents.Contents.{Contents}
 use Rattle.shard_contents.specs.declared.outcomes.Reading.{Reading}
 use Rattle.shard_contents.specs.declared.outcomes.ReadOutcome.{ReadOutcome}
 use Rattle.shard_contents.specs.declared.outcomes.ReadOutcome.TheVariants.{Rows, NotServing}
 use Rattle.shard_law.specs.Entries.{ShardView}
+
+-- from which of its stored entries on a shard has what they change, if somebody follows it
+abbrev pub first_kept : StoredLog → Option ℕ
+first_kept log = if log.is_followed then Some log.first else None
+
+-- what contracts see of a shard's state
+abbrev pub state_view : Run → Contents → ShardView
+state_view seen c = record { seen = seen; shard = c.shard; kept_from = first_kept c.stored.log; tables = length c.store.rows }
 
 -- entries beyond the limit of all kinds that a shard of this mode may have: the one by which it serves again or retires
 abbrev pub beyond : Mode → ℕ

@@ -27,10 +27,13 @@ commit_of e = commit_in e.event
 abbrev pub MayFollow : Opening → List Entry → Entry → Type 0
 MayFollow o before e = IsOnItsSlot o before e.shard × May o before e.shard e.event
 
--- what is known of a shard: the run that its seat has seen, and which shard it is
+-- What is known of a shard: the run that its seat has seen, and which shard it is; from which of its stored entries on it has what they change,
+-- counted from 0, if somebody follows it; and of how many tables it holds the rows.
 pub record ShardView : Type 0 where
   pub seen : List Entry
   pub shard : ShardRecord
+  pub kept_from : Option ℕ
+  pub tables : ℕ
 
 abbrev pub seat_view : ShardView → SeatView Entry
 seat_view s = record { seen = s.seen; slot = s.shard.slot }

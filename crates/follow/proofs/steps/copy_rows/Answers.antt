@@ -9,7 +9,7 @@ use Rattle.follow.proofs.steps.copy_rows.Goals as goal
 pub returns-clause-taken : goal.returns-clause-taken
 returns-clause-taken g c =
     on_ok_as c.copy.result _ _
-    (λ w. let t = took g.W.World.opening c.args.state.now.shard (Copy c.args.rows) c.args.pass.now c.copy.new.pass c.requires.legal w in rows t.0 t.1)
+    (λ w. let t = took g.W.World.opening c.args.state.now (Copy c.args.rows) c.args.pass.now c.copy.new.pass c.requires.legal w in rows t.0 t.1)
     c.copy.ensures.copied
 
 pub returns-clause-refused : goal.returns-clause-refused
@@ -22,7 +22,7 @@ returns-clause-onward g c =
     let p = c.args.pass.now in
     let now = c.copy.new.pass in
     either_way c.copy.result _ _ _
-    (λ w. (took o c.args.state.now.shard (Copy c.args.rows) p now c.requires.legal w).0.onward)
+    (λ w. (took o c.args.state.now (Copy c.args.rows) p now c.requires.legal w).0.onward)
     (λ h. has_looked o p p now c.args.state.now.shard.slot (still o p c.requires.legal) h) c.copy.ensures.copied c.copy.ensures.looked
 
 pub returns-clause-err : goal.returns-clause-err

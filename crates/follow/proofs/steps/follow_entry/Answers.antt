@@ -28,7 +28,7 @@ pub returns-clause-taken : goal.returns-clause-taken
 returns-clause-taken g c =
     on_ok_as c.follow.result _ _
     (λ w.
-    let t = took g.W.World.opening c.args.state.now.shard (Follow c.in_ok-taken.taken) c.args.pass.now c.follow.new.pass c.requires.legal w in
+    let t = took g.W.World.opening c.args.state.now (Follow c.in_ok-taken.taken) c.args.pass.now c.follow.new.pass c.requires.legal w in
     entry c.in_ok-taken.taken (ap (λ (x : F.Follow). x.source) c.in_ok-taken.ensures.ok) t.0 t.1) c.follow.ensures.followed
 
 pub returns-clause-refused : goal.returns-clause-refused
@@ -41,7 +41,7 @@ returns-clause-onward g c =
     let p = c.args.pass.now in
     let now = c.follow.new.pass in
     either_way c.follow.result _ _ _
-    (λ w. (took o c.args.state.now.shard (Follow c.in_ok-taken.taken) p now c.requires.legal w).0.onward)
+    (λ w. (took o c.args.state.now (Follow c.in_ok-taken.taken) p now c.requires.legal w).0.onward)
     (λ h. has_looked o p p now c.args.state.now.shard.slot (still o p c.requires.legal) h) c.follow.ensures.followed c.follow.ensures.looked
 
 pub returns-clause-err : goal.returns-clause-err

@@ -75,7 +75,7 @@ returns-clause-thawed g c =
       alone =
           looked_on which.slot c.args.pass.now q now (look_alone which.slot which.slot c.args.pass.now q _ _ refl (seen g b).pass)
           (change_alone o which.slot st Thaw q now (ap (λ (s : ShardRecord). s.slot) (same g b)) is);
-      serving = mode_now o (record { seen = is.looked.seen; shard = st.shard }) Thaw is.looked now is.appended which (same g b) Serving (λ b. refl);
+      serving = mode_now o (record st { seen = is.looked.seen }) Thaw is.looked now is.appended which (same g b) Serving (λ b. refl);
     }
 
 pub returns-clause-onward : goal.returns-clause-onward

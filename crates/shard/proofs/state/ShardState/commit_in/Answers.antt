@@ -5,14 +5,15 @@ use Rattle.journal.specs.Runs.{NumbersBelow}
 use Rattle.vschema.specs.declared.changes.RowChange.{RowChange}
 use Rattle.vschema.specs.Database.{Database, SameRows, all_applied}
 use Rattle.shard_run.specs.declared.Entry.{Entry}
-use Rattle.shard_run.specs.Runs.{mode, answers_queries, stored_changes}
+use Rattle.shard_run.specs.Runs.{mode, answers_queries, held_changes, stored_changes}
 use Rattle.shard_contents.specs.Limits.{Limits}
-use Rattle.shard_contents.specs.Entries.{commit_of, seat_view}
+use Rattle.shard_contents.specs.Entries.{ShardView, commit_of, seat_view}
 use Rattle.shard_contents.specs.Transactions as t
 use Rattle.shard_contents.specs.KeptEntries.{kept_of}
 use Rattle.shard_contents.proofs.States.{same_contents, names_none, lives_if}
 use Rattle.shard_contents.specs.inner.StoredLogs.{StoredLog, HasStoredNext}
 use Rattle.shard_contents.proofs.Earlier.{all_had_next, all_had_same}
+use Rattle.shard_contents.proofs.Views.{viewed_next}
 use Rattle.shard.proofs.StepsIn as steps
 use Rattle.shard_run.proofs.Sent.{entry_send}
 use Rattle.shard.proofs.state.ShardState.commit_in.Goals as goal
@@ -113,3 +114,12 @@ pub returns-clause-stands : goal.returns-clause-stands
 returns-clause-stands g c =
     let is = left g c in
     subst (λ s. Rattle.shard_contents.specs.Legal.IsOnItsSlot g.W.World.opening c.append.new.self.seen s) is.shard_now is.is_now.stands
+
+pub returns-clause-same : goal.returns-clause-same
+returns-clause-same g c =
+    let ok = c.in_ok-prepared.ensures in
+    let t = c.take.ensures in
+    viewed_next _ _ c.self.inside.contents c.take.new.self _ (kept_of c.in_ok-prepared.prepared.entry) (held_changes c.in_ok-prepared.prepared.entry.event)
+    c.self.view_is (t.shard ∙ ok.shard) (grown g c)
+    (subst (λ (db : Database). SameRows c.take.new.self.store.rows (all_applied (held_changes c.in_ok-prepared.prepared.entry.event) db)) ok.rows t.rows)
+    ∙ ap (λ (x : ShardView). record x { seen = c.append.new.self.seen }) c.in_ok-entries.ensures.same

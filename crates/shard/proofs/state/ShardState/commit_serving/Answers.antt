@@ -10,7 +10,7 @@ use Rattle.shard_contents.proofs.States.{after_look, names_after_look, same_cont
 use Rattle.shard_contents.specs.Commits.{IsPlaced}
 use Rattle.shard_contents.specs.KeptEntries.{kept_of}
 use Rattle.shard_contents.specs.Entries.{ShardView, commit_of}
-use Rattle.shard_contents.specs.Shards.{Holds, IsAfter, RetiredFor}
+use Rattle.shard_contents.specs.Shards.{Holds, IsAfter, RetiredFor, state_view}
 use Rattle.shard_contents.specs.declared.contents.Contents.{Contents}
 use Rattle.shard_contents.specs.Limits.{Limits}
 use Rattle.shard_run.specs.declared.ShardRecord.{ShardRecord}
@@ -23,6 +23,7 @@ use Rattle.vschema.specs.Database.{Database, SameRows, all_applied}
 use Rattle.shard_contents.specs.Writes.{changes_of}
 use Rattle.shard_contents.specs.inner.StoredLogs.{StoredLog, HasStoredNext}
 use Rattle.shard_contents.proofs.Earlier.{all_had_next, all_had_same}
+use Rattle.shard_contents.proofs.Views.{viewed_next}
 use Rattle.shard.proofs.Steps as steps
 use Rattle.shard_run.proofs.Sent.{entry_send}
 use Rattle.shard.proofs.state.ShardState.commit_serving.Goals as goal
@@ -31,9 +32,9 @@ pub append-requires-send-L-Entry : goal.append-requires-send-L-Entry
 append-requires-send-L-Entry g c κs within = search (entry_send, sendable)
 
 -- what the state's view says of its fields
-inside : (o : Opening) (seen : Run) (s : ShardRecord) (v : ShardView) → record { seen = seen; shard = s } ≡ v → mode o v.seen v.shard.slot ≡ Serving
-    → mode o seen s.slot ≡ Serving
-inside o seen s v view serving = subst (λ (x : ShardView). mode o x.seen x.shard.slot ≡ Serving) (sym view) serving
+inside : (o : Opening) (seen : Run) (c : Contents) (v : ShardView) → state_view seen c ≡ v → mode o v.seen v.shard.slot ≡ Serving
+    → mode o seen c.shard.slot ≡ Serving
+inside o seen c v view serving = subst (λ (x : ShardView). mode o x.seen x.shard.slot ≡ Serving) (sym view) serving
 
 holding : (o : Opening) (most : Limits) (seat : SeatView Entry) (c : Contents) → IsAfter o most seat c → mode o seat.seen c.shard.slot ≡ Serving
     → Holds o most seat.seen c
@@ -48,14 +49,14 @@ prepare-requires-clause-there g c =
 pub prepare-requires-clause-tables : goal.prepare-requires-clause-tables
 prepare-requires-clause-tables g c =
     (holding g.W.World.opening g.W.World.limits c.self.inside.seat c.self.inside.contents c.self.invariant.0
-    (inside g.W.World.opening _ _ _ c.self.view_is c.requires.serving)).tables
+    (inside g.W.World.opening _ c.self.inside.contents _ c.self.view_is c.requires.serving)).tables
     ∙ ap (λ (v : VSchema). length v.tables) (sym c.requires.schema)
 
 pub prepare-requires-clause-within : goal.prepare-requires-clause-within
 prepare-requires-clause-within g c =
     let h = (holding g.W.World.opening g.W.World.limits c.self.inside.seat c.self.inside.contents c.self.invariant.0
-    (inside g.W.World.opening _ _ _ c.self.view_is c.requires.serving)).within
-    (ap answers_queries (inside g.W.World.opening _ _ _ c.self.view_is c.requires.serving)) in
+    (inside g.W.World.opening _ c.self.inside.contents _ c.self.view_is c.requires.serving)).within
+    (ap answers_queries (inside g.W.World.opening _ c.self.inside.contents _ c.self.view_is c.requires.serving)) in
     let k = ap (λ (l : Limits). l.rows) c.self.invariant.0.limits in
     omega (arith, h, k)
 
@@ -80,7 +81,7 @@ returns-in_err-prepared-clause-refused g c =
     let l = c.look-entries.ensures in
     rw (p.1, p.2, ← c.self.view_is)
     (steps.refused g.W.World.opening g.W.World.limits c.self.inside.seat c.look-entries.new.self c.self.inside.contents c.args.pass.now
-    c.look-entries.new.pass c.self.invariant.0 (inside g.W.World.opening _ _ _ c.self.view_is c.requires.serving) l.seen l.seat l.pass c.args.schema.now c.look-entries.result c.args.write c.in_err-prepared.field-0.0
+    c.look-entries.new.pass c.self.invariant.0 (inside g.W.World.opening _ c.self.inside.contents _ c.self.view_is c.requires.serving) l.seen l.seat l.pass c.args.schema.now c.look-entries.result c.args.write c.in_err-prepared.field-0.0
     c.requires.schema l.count c.requires.typed c.in_err-prepared.ensures.err)
 
 -- the write as it is in the opening's VSchema, its place and its session
@@ -111,7 +112,7 @@ append-requires-clause-lawful g c κs within run next =
     c.session.ensures.number c.unwrap.ensures in
     let low = subst (λ (n : ℕ). NumbersBelow commit_of c.unwrap.result n c.args.pass.now.seen) (sym c.statements.ensures) (c.requires.above c.unwrap.result is.mine) in
     steps.lawful o g.W.World.limits c.self.inside.seat c.look-entries.new.self c.self.inside.contents c.args.pass.now
-    c.look-entries.new.pass c.self.invariant.0 (inside g.W.World.opening _ _ _ c.self.view_is c.requires.serving) l.seen l.seat l.pass c.args.write (held_changes c.in_ok-prepared.prepared.entry.event) c.unwrap.result c.statements.result
+    c.look-entries.new.pass c.self.invariant.0 (inside g.W.World.opening _ c.self.inside.contents _ c.self.view_is c.requires.serving) l.seen l.seat l.pass c.args.write (held_changes c.in_ok-prepared.prepared.entry.event) c.unwrap.result c.statements.result
     c.in_ok-prepared.prepared.entry ok.entry is.changed c.requires.typed is.placed is.mine run next low
 
 grown : (g : _) (c : goal.After-take g) → HasStoredNext c.self.inside.contents.stored.log (kept_of c.in_ok-prepared.prepared.entry) c.take.new.self.stored.log
@@ -131,7 +132,7 @@ left g c =
     c.session.result c.args.self.now _ c.requires.schema ok.changes c.self.view_is refl c.requires.placed
     c.session.ensures.number c.unwrap.ensures in
     steps.left o g.W.World.limits c.self.inside.seat c.look-entries.new.self c.self.inside.contents c.args.pass.now
-    c.look-entries.new.pass c.self.invariant.0 (inside g.W.World.opening _ _ _ c.self.view_is c.requires.serving) l.seen l.seat l.pass c.args.write (held_changes c.in_ok-prepared.prepared.entry.event) c.unwrap.result c.statements.result
+    c.look-entries.new.pass c.self.invariant.0 (inside g.W.World.opening _ c.self.inside.contents _ c.self.view_is c.requires.serving) l.seen l.seat l.pass c.args.write (held_changes c.in_ok-prepared.prepared.entry.event) c.unwrap.result c.statements.result
     c.in_ok-prepared.prepared.entry ok.entry is.changed c.requires.typed is.placed is.mine a.seen.0 a.seen.1 c.append.new.self c.append.new.pass
     c.take.new.self c.take.result a.seen.2 a.seat a.pass c.statements.ensures a.legal c.look-entries.result l.count ok.limits (t.count ∙ ok.count)
     (t.shard ∙ ok.shard)
@@ -172,3 +173,11 @@ pub returns-clause-stands : goal.returns-clause-stands
 returns-clause-stands g c =
     rw (← c.self.view_is)
     (subst (IsOnItsSlot g.W.World.opening c.append.new.self.seen) (c.take.ensures.shard ∙ c.in_ok-prepared.ensures.shard) ((left g c).is_now.stands))
+
+pub returns-clause-same : goal.returns-clause-same
+returns-clause-same g c =
+    let ok = c.in_ok-prepared.ensures in
+    let t = c.take.ensures in
+    viewed_next _ _ c.self.inside.contents c.take.new.self _ (kept_of c.in_ok-prepared.prepared.entry) (held_changes c.in_ok-prepared.prepared.entry.event)
+    c.self.view_is (t.shard ∙ ok.shard) (grown g c)
+    (subst (λ (db : Database). SameRows c.take.new.self.store.rows (all_applied (held_changes c.in_ok-prepared.prepared.entry.event) db)) ok.rows t.rows)

@@ -22,6 +22,7 @@ use Rattle.shard_contents.specs.inner.Copying.{has_room_to_copy}
 use Rattle.shard_run.specs.Openings.{row_count}
 use Rattle.shard_run.proofs.Sent.{entry_send}
 use Rattle.shard_contents.specs.inner.StoredLogs.{StoredView}
+use Rattle.shard.proofs.Views.{copied_view}
 use Rattle.shard.proofs.state.ShardState.copy.Goals as goal
 
 pub append-requires-send-L-Entry : goal.append-requires-send-L-Entry
@@ -130,3 +131,12 @@ invariant_of-self-2 g c =
           ∙ k.mode_copies o most seat had is follows a.seen.0 a.seen.1.alone taken)),
       all_had_none _ _ _ c.clear.ensures,
     )
+
+pub returns-clause-same : goal.returns-clause-same
+returns-clause-same g c =
+    let had = c.self.inside.contents in
+    let ok = c.in_ok-prepared.ensures in
+    let t = c.take_copy.ensures in
+    copied_view _ _ had c.take_copy.new.self _ (held_changes c.in_ok-prepared.prepared.entry.event) c.self.view_is (t.shard ∙ ok.shard)
+    (ap (λ (v : StoredView). v.log) t.stored ∙ ok.stored)
+    (subst (λ (db : Database). SameRows c.take_copy.new.self.store.rows (all_applied (held_changes c.in_ok-prepared.prepared.entry.event) db)) ok.rows t.rows)

@@ -7,7 +7,7 @@ use Rattle.journal.specs.Views.{SeatView, PassView}
 use Rattle.shard_run.specs.declared.ShardRecord.{ShardRecord}
 use Rattle.shard_run.specs.declared.Entry.{Entry}
 use Rattle.shard_run.specs.declared.Event.TheVariants.{Follow}
-use Rattle.shard_run.specs.Runs.{mode, shard_rows}
+use Rattle.shard_run.specs.Runs.{mode, shard_rows, held_changes}
 use Rattle.shard_contents.specs.Limits.{Limits}
 use Rattle.shard_contents.specs.Kept.{keep}
 use Rattle.shard_contents.specs.KeptEntries.{kept_of}
@@ -25,6 +25,7 @@ use Rattle.shard_contents.specs.inner.StoredLogs.{StoredLog, count_of, HasStored
 use Rattle.shard_contents.specs.Law.{SourcesApart}
 use Rattle.shard_run.specs.Openings.{row_count}
 use Rattle.shard_run.proofs.Sent.{entry_send}
+use Rattle.shard_contents.proofs.Views.{viewed_next}
 use Rattle.shard.proofs.FollowCounts.{follow_within}
 use Rattle.shard.proofs.state.ShardState.follow.Goals as goal
 
@@ -178,3 +179,12 @@ returns-clause-room g c =
     c.args.self.now c.self.view_is c.requires.following in
     let limit = ap (λ (x : Limits). x.stored) c.self.invariant.0.limits in
     (omega (arith, few, count, entries), omega (arith, less, stored, limit))
+
+pub returns-clause-same : goal.returns-clause-same
+returns-clause-same g c =
+    let had = c.self.inside.contents in
+    let ok = c.in_ok-step.ensures in
+    let t = c.take_step.ensures in
+    viewed_next _ _ had c.take_step.new.self _ (kept_of c.in_ok-step.step.entry) (held_changes c.in_ok-step.step.entry.event) c.self.view_is (t.shard ∙ ok.shard)
+    (subst (λ (l : StoredLog). HasStoredNext l (kept_of c.in_ok-step.step.entry) c.take_step.new.self.stored.log) ok.stored t.stored)
+    (subst (λ (db : Database). SameRows c.take_step.new.self.store.rows (all_applied (held_changes c.in_ok-step.step.entry.event) db)) ok.rows t.rows)

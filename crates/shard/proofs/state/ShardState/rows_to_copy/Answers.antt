@@ -11,6 +11,7 @@ use Rattle.shard_contents.specs.inner.StoredLogs.{StoredLog}
 use Rattle.shard_contents.proofs.Earlier.{all_had_followed}
 use Rattle.shard_contents.proofs.States.{holds_of, lives_if, followed_contents}
 use Rattle.shard_contents.proofs.CopySteps.{copy_for, first_as, table_is}
+use Rattle.shard.proofs.Views.{followed_view, is_followed_now, kept_followed_as}
 use Rattle.shard.proofs.state.ShardState.rows_to_copy.Goals as goal
 
 pub first_wanted-requires-clause-there : goal.first_wanted-requires-clause-there
@@ -67,3 +68,12 @@ returns-clause-copy g c =
           (c.slot-source.ensures.slot ∙ ap (λ (x : ShardView). x.shard.slot) (sym view)) refl
           (c.stored-stored.ensures ∙ ap (λ (x : ShardView). length (stored_on x.shard.slot x.seen)) (sym view)) c.from_vec.ensures),
     )
+
+pub returns-clause-unchanged : goal.returns-clause-unchanged
+returns-clause-unchanged g c = followed_view _ c.self.inside.contents (record c.self.inside.contents { stored = c.follow.new.self }) _ c.self.view_is refl refl
+
+pub returns-clause-followed : goal.returns-clause-followed
+returns-clause-followed g c = is_followed_now c.self.inside.contents.stored.log _ c.follow.ensures
+
+pub returns-clause-kept : goal.returns-clause-kept
+returns-clause-kept g c n from = kept_followed_as _ c.self.inside.contents (record c.self.inside.contents { stored = c.follow.new.self }) _ c.self.view_is c.follow.ensures n from

@@ -7,6 +7,7 @@ use Rattle.shard_contents.specs.inner.StoredLogs.{StoredLog}
 use Rattle.shard_contents.specs.inner.Earlier.{AllHadRows}
 use Rattle.shard_contents.proofs.Earlier.{all_had_followed}
 use Rattle.shard_contents.proofs.States.{holds_of, lives_if, followed_contents}
+use Rattle.shard.proofs.Views.{followed_view, is_followed_now, kept_followed_as}
 use Rattle.shard.proofs.state.ShardState.sort_some.Goals as goal
 
 pub sort_some-requires-clause-there : goal.sort_some-requires-clause-there
@@ -33,3 +34,12 @@ invariant_of-self g c = (
   c.self.invariant.1,
   subst (λ (db : Database). AllHadRows c.follow.new.self.log db c.sort_some.new.self) (sym c.sort_some.ensures.rows) c.sort_some.ensures.had,
 )
+
+pub returns-clause-unchanged : goal.returns-clause-unchanged
+returns-clause-unchanged g c = followed_view _ c.self.inside.contents (record c.self.inside.contents { store = c.sort_some.new.store; stored = c.follow.new.self }) _ c.self.view_is refl c.sort_some.ensures.rows
+
+pub returns-clause-followed : goal.returns-clause-followed
+returns-clause-followed g c = is_followed_now c.self.inside.contents.stored.log _ c.follow.ensures
+
+pub returns-clause-kept : goal.returns-clause-kept
+returns-clause-kept g c n from = kept_followed_as _ c.self.inside.contents (record c.self.inside.contents { stored = c.follow.new.self }) _ c.self.view_is c.follow.ensures n from
