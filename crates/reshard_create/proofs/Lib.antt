@@ -7,6 +7,7 @@ pub mod Blank
 pub mod Making
 pub mod Begins
 pub mod Unfit
+pub mod Looking
 pub mod Seats
 pub use Rattle.reshard_cutover.proofs.Retiring
 pub use Rattle.reshard_cutover.proofs.Onward

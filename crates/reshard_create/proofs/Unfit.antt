@@ -21,7 +21,7 @@ use Rattle.reshard_cutover.specs.declared.fault.ReshardFault.{ReshardFault}
 use Rattle.reshard_cutover.specs.declared.fault.ReshardFault.TheVariants.{Refused, Gap, FewSlots, WrongSource}
 use Rattle.reshard_cutover.specs.declared.fault.ReshardFault.TheVariants as faults
 use Rattle.reshard_create.specs.split.Choices.{DoNotOverlap, HoldTheSame}
-use Rattle.reshard_create.specs.Begun.{WasSeen, IsServing, IsNotFollowing, IsAway, AreSources, ArePartsOf, IsCreateRefusal}
+use Rattle.reshard_create.specs.Begun.{WasSeen, IsServing, IsNotFollowing, IsAway, EndsInLookAt, AreSources, ArePartsOf, IsCreateRefusal}
 use Rattle.reshard_create.specs.Begun as begun
 use Rattle.reshard_create.specs.inner.Created.{AreToldApart, HasSeen}
 use Rattle.reshard_cutover.proofs.Permuted.{all_permuted}
@@ -103,7 +103,7 @@ module _ (o : Opening) (k : ℕ) (from into : List KeyRange) (seats taken rest :
       Rattle.shard_law.proofs.Lists.all-from_In (λ (s : Seat). s.2 ≡ k) taken
       (λ s h. In-all (λ (s : Seat). s.2 ≡ k) s seats told.home (In-from_Contains s seats (In-all (Contains seats) s taken told.taken_among h)))
 
-  rest_home : AllByRecursion (λ s. s.2 ≡ k) rest
+  pub rest_home : AllByRecursion (λ s. s.2 ≡ k) rest
   rest_home =
       Rattle.shard_law.proofs.Lists.all-from_In (λ (s : Seat). s.2 ≡ k) rest
       (λ s h. In-all (λ (s : Seat). s.2 ≡ k) s seats told.home (In-from_Contains s seats (In-all (Contains seats) s rest told.rest_among h)))
@@ -120,13 +120,13 @@ module _ (o : Opening) (k : ℕ) (from into : List KeyRange) (seats taken rest :
 
   -- a named part was found frozen or retired
   pub one_away : (p now : PassView Entry) (free : ℕ) (taken' : List Seat) → taken' ≡ taken → (seat : Seat) → Contains taken' seat → HasSeen o p now k IsAway seat
-      → IsCreateRefusal o p now k free from into WrongSource
-  one_away p now free taken' same seat among seen =
+      → EndsInLookAt seat.0 now → IsCreateRefusal o p now k free from into WrongSource
+  one_away p now free taken' same seat among seen ends =
       let s = seen.0 in
       let there = subst (λ (l : List Seat). Contains l seat) same among in
       begun.away s (ap (λ (x : Place). x.keyspace) seen.1.place)
       (subst (Contains from) (sym (ap (λ (x : Place). x.range) seen.1.place)) (In-all (λ (x : Seat). Contains from x.1) seat taken told.are.named (In-from_Contains seat taken there)))
-      seen.1.seen
+      seen.1.seen (subst (λ (n : ℕ). EndsInLookAt n now) (sym seen.1.slot) ends)
 
   -- the targets don't fit the sources
   pub tested : (p now : PassView Entry) (free : ℕ) (sources : List ShardRecord) → length taken ≡ length from → AreSources o p now k from sources → (e : ReshardFault)

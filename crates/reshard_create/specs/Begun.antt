@@ -1,5 +1,5 @@
 -- What a workflow begins with, and why it isn't begun.
-use Rattle.std.specs.Prelude.{◌≡◌, ℕ, ◌<◌, ◌+◌, ◌++◌, [], List, length, map, Contains, IsPermutation, IsSorted}
+use Rattle.std.specs.Prelude.{◌≡◌, ℕ, ◌<◌, ◌+◌, ◌++◌, [], ◌∷◌, List, length, map, Contains, IsPermutation, IsSorted}
 use Rattle.std.specs.List.{AllByRecursion}
 use Rattle.keyrange.specs.declared.KeyRange.{KeyRange}
 use Rattle.serving.specs.Partitions.{IsPartition}
@@ -37,6 +37,10 @@ IsNotFollowing m = m ≡ modes.Following → ⊥
 -- it is frozen or retired
 abbrev pub IsAway : Mode → Type 0
 IsAway m = IsNotFollowing m × (IsServing m → ⊥)
+
+-- the last that the pass did was a look at the shard on this slot
+abbrev pub EndsInLookAt : ℕ → PassView Entry → Type 0
+EndsInLookAt slot now = (before : List (ℕ × ℕ)) × (now.looks ≡ before ++ (slot, length now.seen) ∷ [])
 
 -- Nothing stands against the sources: they are shards of the keyspace, one for each range that was named, and at least one. No two of the ranges
 -- overlap, so none was named twice. At a look each served, and wasn't frozen.
@@ -79,14 +83,14 @@ pub record HasBegun (o : Opening) (p now : PassView Entry) (sources : List Shard
   pub sources_rise : IsSorted begin_cmp (map (λ s. s.place.range) sources)
   pub targets_rise : IsSorted begin_cmp (map (λ t. t.0.place.range) targets)
 
--- Why a workflow isn't begun that may be. The causes are judged in this order: a source, an overlap, what the targets hold, and last their number:
+-- Why a workflow isn't begun that may be. A shard that is away was looked at last. The causes are judged in this order: a source, an overlap, what the targets hold, and last their number:
 -- too few slots are free, or the partition would have more parts than there are slots.
 pub data IsCreateRefusal (o : Opening) (p now : PassView Entry) (keyspace free : ℕ) (from into : List KeyRange) : ReshardFault → Type 0 where
   no_memory : IsCreateRefusal o p now keyspace free from into (Refused OutOfMemory)
   none_named : from ≡ [] → IsCreateRefusal o p now keyspace free from into WrongSource
   not_there : (taken rest : List ShardRecord) → ArePartsOf o p now keyspace from taken rest → (length taken ≡ length from → ⊥)
       → IsCreateRefusal o p now keyspace free from into WrongSource
-  away : (s : ShardRecord) → s.place.keyspace ≡ keyspace → Contains from s.place.range → WasSeen o p now IsAway s
+  away : (s : ShardRecord) → s.place.keyspace ≡ keyspace → Contains from s.place.range → WasSeen o p now IsAway s → EndsInLookAt s.slot now
       → IsCreateRefusal o p now keyspace free from into WrongSource
   overlap : (sources : List ShardRecord) → AreSources o p now keyspace from sources → (DoNotOverlap into → ⊥) → IsCreateRefusal o p now keyspace free from into faults.Overlap
   gap : (sources : List ShardRecord) → AreSources o p now keyspace from sources → DoNotOverlap into → (HoldTheSame into from → ⊥)

@@ -2,6 +2,7 @@ pub mod inner
 pub mod Configs
 pub mod Splits
 pub mod Begun
+pub mod Looked
 pub mod split
 pub mod reopening
 pub use Rattle.reshard_cutover.specs.FollowSteps

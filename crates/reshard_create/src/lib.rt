@@ -16,7 +16,7 @@ pub use config::ReshardConfig;
 pub use new_workflow::{NewWorkflow, begin};
 pub use reshard_cutover::{
     ReshardFault, SourceShard, Step, TargetShard, all_fit, confirm_cutover, confirm_retired,
-    drop_all, freeze, move_first, named_of_all, next_partition, note_stored, retire, serve, thaw,
-    unfreeze_all,
+    drop_all, entries_left, freeze, move_first, named_of_all, next_partition, note_stored, retire,
+    serve, thaw, unfreeze_all,
 };
 pub use shard::{Shard, ShardLaw, ShardPass, ShardState, World};

@@ -11,6 +11,7 @@ ghost use Rattle.reshard_create.specs.Configs.{IsFree, IsReshardConfig};
 ghost use Rattle.reshard_create.specs.split.Splits.{IsSplit, target_seats};
 ghost use Rattle.reshard_create.specs.split.Choices.{DoNotOverlap, begin_cmp};
 ghost use Rattle.reshard_create.specs.Begun.{AreSources, HasBegun, IsCreateRefusal};
+ghost use Rattle.reshard_create.specs.Looked.{HasLookedAtParts, HasLookedAtEach};
 ghost use Rattle.reshard_create.specs.inner.Created.{IsSurvey};
 
 use crate::config::ReshardConfig;
@@ -94,6 +95,8 @@ fn survey<W: World, J: Naming>(
     ensures apart { OnOk result (DoNotOverlap targets.now) }
     ensures partition { IsPartition current.now }
     ensures enough { OnOk result (length targets.now ≤ free) }
+    ensures looked { HasLookedAtParts W.opening keyspace pass.old pass.new }
+    ensures each { IfOk result (λ f. HasLookedAtEach (map (λ s. s.slot) (map (λ s. s.member.which) f.sources.items)) pass.old pass.new) }
     ensures onward { IsOnward W.opening pass.old pass.new }
     ensures err { IfErr result (IsCreateRefusal W.opening pass.old pass.new keyspace free sources.now targets.now) }
 {
@@ -142,6 +145,8 @@ pub fn begin<W: World, J: Naming>(
     ensures next { IfOk result (λ b. IsPartition (b.rest.items ++ map (λ t. t.member.shard.value) b.targets.items)) }
     ensures at_home { IfOk result (λ b. AreOf config.keyspace (b.rest.items ++ map (λ t. t.member.shard.value) b.targets.items)) }
     ensures free { AllByRecursion (IsFree W.opening) free.new.items }
+    ensures looked { HasLookedAtParts W.opening config.keyspace pass.old pass.new }
+    ensures each { IfOk result (λ b. HasLookedAtEach (map (λ s. s.slot) (map (λ s. s.member.which) b.sources.items)) pass.old pass.new) }
     ensures onward { IsOnward W.opening pass.old pass.new }
     ensures err { IfErr result (IsCreateRefusal W.opening pass.old pass.new config.keyspace (length free.old.items) sources.now targets.now) }
     ensures taken { IfOk result (λ b. map (λ s. s.slot) free.old.items ≡ map (λ s. s.slot) free.new.items ++ reverse (map (λ t. t.member.which.slot) b.targets.items)) }

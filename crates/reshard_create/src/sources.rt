@@ -1,5 +1,5 @@
 //! Which shards a workflow replaces, and whether these targets may replace them.
-ghost use Rattle.std.specs.Prelude.{◌≡◌, ◌⊎◌, ◌++◌, ℕ, List, IfOk, IfErr, IfSome, OnOk, MatchOption, Contains, map, length};
+ghost use Rattle.std.specs.Prelude.{◌≡◌, ◌⊎◌, ◌++◌, ℕ, List, IfOk, IfErr, IfSome, OnOk, MatchOption, IsSome, Contains, map, length};
 ghost use Rattle.std.specs.List.{AllByRecursion};
 ghost use Rattle.keyrange.specs.Ranges.{Cover};
 ghost use Rattle.serving.specs.Partitions.{Seat, AreOf};
@@ -7,8 +7,8 @@ ghost use Rattle.journal.specs.Runs.{IsLegal};
 ghost use Rattle.shard_law.specs.Entries.{MayFollow};
 ghost use Rattle.reshard_cutover.specs.FollowSteps.{IsOnward};
 ghost use Rattle.reshard_create.specs.split.Choices.{DoNotOverlap};
-ghost use Rattle.reshard_create.specs.Begun.{WasSeen, IsServing, IsAway, AreSources, IsCreateRefusal};
-ghost use Rattle.reshard_create.specs.inner.Created.{AreToldApart, HasSeen};
+ghost use Rattle.reshard_create.specs.Begun.{WasSeen, IsServing, IsAway, EndsInLookAt, AreSources, IsCreateRefusal};
+ghost use Rattle.reshard_create.specs.inner.Created.{AreToldApart, HasSeen, HasLookedAtAll, HasLookedAlongParts};
 
 use crate::looks::look_at_each;
 use crate::partition_parts::{ChosenParts, any_overlap};
@@ -33,9 +33,11 @@ pub(crate) fn sources_of<W: World, J: Naming>(
 ) -> Result<Option<Vec<SourceShard<W, J>>>, AllocError>
     requires legal { IsLegal (MayFollow W.opening) pass.old.seen }
     requires home { AreOf keyspace parts.now }
-    ensures found { IfOk result (λ r. MatchOption r ((seat : Seat) × Contains parts.now seat × HasSeen W.opening pass.old pass.new keyspace IsAway seat)
+    ensures found { IfOk result (λ r. MatchOption r ((seat : Seat) × Contains parts.now seat × HasSeen W.opening pass.old pass.new keyspace IsAway seat × EndsInLookAt seat.0 pass.new)
         (λ sources. (map (λ s. (s.member.which.slot, s.member.which.place.range, s.member.which.place.keyspace)) sources.items ≡ parts.now)
         × AllByRecursion (λ s. s.member.which.place.keyspace ≡ keyspace) sources.items)) }
+    ensures looked { HasLookedAlongParts W.opening pass.old pass.new keyspace parts.now }
+    ensures all { IfOk result (λ r. IsSome r → HasLookedAtAll W.opening pass.old pass.new keyspace parts.now) }
     ensures served { IfOk result (λ r. IfSome r (λ sources. AllByRecursion (λ s. WasSeen W.opening pass.old pass.new IsServing s.member.which) sources.items)) }
     ensures onward { IsOnward W.opening pass.old pass.new }
 {
@@ -91,6 +93,8 @@ pub(crate) fn find_sources<W: World, J: Naming>(
     ensures count { OnOk result (length chosen.now.taken.items ≡ length sources.now) }
     ensures apart { OnOk result (DoNotOverlap targets.now) }
     ensures onward { IsOnward W.opening pass.old pass.new }
+    ensures looked { HasLookedAlongParts W.opening pass.old pass.new keyspace (chosen.now.taken.items ++ chosen.now.rest.items) }
+    ensures all { OnOk result (HasLookedAtAll W.opening pass.old pass.new keyspace chosen.now.taken.items) }
     ensures err { IfErr result (λ e. (free : ℕ) → IsCreateRefusal W.opening pass.old pass.new keyspace free sources.now targets.now e) }
 {
     if sources.is_empty() {

@@ -10,7 +10,8 @@ ghost use Rattle.reshard_cutover.specs.FollowSteps.{IsOnward};
 ghost use Rattle.reshard_create.specs.split.Splits.{target_seats, AreOverlapped};
 ghost use Rattle.shard.specs.Seats.{seat_of};
 ghost use Rattle.reshard_create.specs.Configs.{IsFree, IsReshardConfig};
-ghost use Rattle.reshard_create.specs.Begun.{IsServing, IsAway};
+ghost use Rattle.reshard_create.specs.Begun.{IsServing, IsAway, IsNotFollowing, EndsInLookAt};
+ghost use Rattle.reshard_cutover.specs.Turns.{HasLookedAt};
 ghost use Rattle.reshard_create.specs.inner.Created.{IsSeenAt, HasSeen, IsMade, IsMadeOf};
 
 use crate::config::ReshardConfig;
@@ -49,6 +50,9 @@ pub(crate) fn source_of<W: World, J: Naming>(
     requires legal { IsLegal (MayFollow W.opening) pass.old.seen }
     ensures found { IfOk result (λ r. MatchOption r (HasSeen W.opening pass.old pass.new keyspace IsAway part.now)
         (λ m. IsSeenAt W.opening pass.old pass.new keyspace IsServing part.now m.which)) }
+    ensures seen { HasSeen W.opening pass.old pass.new keyspace IsNotFollowing part.now }
+    ensures looked { HasLookedAt (part.now.0 ∷ []) pass.old pass.new }
+    ensures ends { EndsInLookAt part.now.0 pass.new }
     ensures onward { IsOnward W.opening pass.old pass.new }
 {
     let which = {

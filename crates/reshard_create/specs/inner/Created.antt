@@ -12,7 +12,9 @@ use Rattle.shard_run.specs.declared.Entry.{Entry}
 use Rattle.shard_run.specs.declared.Mode.{Mode}
 use Rattle.shard_run.specs.Runs.{Run, Opening, IsShardOf, mode}
 use Rattle.reshard_create.specs.split.inner.Takes.{TakesFrom}
-use Rattle.reshard_create.specs.Begun.{WasSeen, TakesItsOwn}
+use Rattle.reshard_create.specs.Begun.{WasSeen, IsNotFollowing, TakesItsOwn}
+use Rattle.reshard_create.specs.Looked.{slots_of}
+use Rattle.reshard_cutover.specs.Turns.{HasLookedAt}
 use Rattle.shard.specs.Seats.{seat_of}
 use Rattle.reshard_cutover.specs.TargetSources.{TargetWithSources}
 
@@ -45,6 +47,18 @@ pub record IsSeenAt (o : Opening) (p now : PassView Entry) (keyspace : ℕ) (Suc
 
 abbrev pub HasSeen : Opening → PassView Entry → PassView Entry → ℕ → (Mode → Type 0) → Seat → Type 0
 HasSeen o p now keyspace Such seat = (s : S.ShardRecord) × IsSeenAt o p now keyspace Such seat s
+
+-- the pass looked once at the shard of each of these parts, in their order, and at no other, and each was found there and didn't follow
+pub record HasLookedAtAll (o : Opening) (p now : PassView Entry) (keyspace : ℕ) (parts : List Seat) : Type 0 where
+  pub seen : AllByRecursion (HasSeen o p now keyspace IsNotFollowing) parts
+  pub looked : HasLookedAt (slots_of parts) p now
+
+-- it looked so at the first of them, as far as it came
+pub record HasLookedAlongParts (o : Opening) (p now : PassView Entry) (keyspace : ℕ) (parts : List Seat) : Type 0 where
+  pub first : List Seat
+  pub others : List Seat
+  pub are : first ++ others ≡ parts
+  pub looked : HasLookedAtAll o p now keyspace first
 
 -- the target is in the keyspace, and takes from those of the sources that overlap it
 pub record IsMadeOf (sources : List S.ShardRecord) (keyspace : ℕ) (t : TargetWithSources) : Type 0 where

@@ -1,12 +1,14 @@
 //! The shards of a workflow that stopped, each looked at once under its lock.
 ghost use Rattle.shard_run.specs.declared.ShardRecord as which;
-ghost use Rattle.std.specs.Prelude.{◌≡◌, IfOk, map};
+ghost use Rattle.std.specs.Prelude.{◌≡◌, ◌∷◌, [], IfOk, OnOk, map};
 ghost use Rattle.journal.specs.Runs.{IsLegal};
 ghost use Rattle.shard_run.specs.Runs.{mode};
 ghost use Rattle.shard_law.specs.Entries.{MayFollow};
 ghost use Rattle.reshard_cutover.specs.FollowSteps.{IsOnward};
 ghost use Rattle.shard.specs.Seats.{seat_of, place_at};
 ghost use Rattle.reshard_create.specs.reopening.Rebuilt.{IsFound, AreFound};
+ghost use Rattle.reshard_create.specs.Looked.{slots_of, HasLookedAlong};
+ghost use Rattle.reshard_cutover.specs.Turns.{HasLookedAt};
 ghost use Rattle.reshard_create.specs.reopening.inner.Snapshots.{IsSnapshot};
 
 use journal::Naming;
@@ -86,6 +88,7 @@ fn look_at<W: World, J: Naming>(
 ) -> Result<ShardSnapshot, AllocError>
     requires legal { IsLegal (MayFollow W.opening) pass.old.seen }
     ensures seen { IfOk result (λ g. IsSnapshot W.opening pass.new.seen state.old.shard.slot state.old.shard.place g.which g.mode g.named) }
+    ensures looked { HasLookedAt (state.old.shard.slot ∷ []) pass.old pass.new }
     ensures onward { IsOnward W.opening pass.old pass.new }
 {
     let _ = state.look(pass);
@@ -110,6 +113,7 @@ fn look_locked<W: World, J: Naming>(
 ) -> Result<ShardSnapshot, AllocError>
     requires legal { IsLegal (MayFollow W.opening) pass.old.seen }
     ensures seen { IfOk result (λ g. IsSnapshot W.opening pass.new.seen part.now.0 (place_at part.now) g.which g.mode g.named) }
+    ensures looked { HasLookedAt (part.now.0 ∷ []) pass.old pass.new }
     ensures onward { IsOnward W.opening pass.old pass.new }
 {
     let place = Place {
@@ -162,6 +166,7 @@ fn find<W: World, J: Naming>(
     requires legal { IsLegal (MayFollow W.opening) pass.old.seen }
     ensures found { IfOk result (λ f. IsFound W.opening pass.old pass.new (f.member.which, f.mode, f.named)) }
     ensures seat { IfOk result (λ f. seat_of f.member.which ≡ part.now) }
+    ensures looked { HasLookedAt (part.now.0 ∷ []) pass.old pass.new }
     ensures shard { IfOk result (λ f. f.member.shard.value ≡ part.now) }
     ensures onward { IsOnward W.opening pass.old pass.new }
 {
@@ -180,6 +185,8 @@ pub(crate) fn find_all<W: World, J: Naming>(
     requires legal { IsLegal (MayFollow W.opening) pass.old.seen }
     ensures found { IfOk result (λ found. AreFound W.opening pass.old pass.new parts.now (map (λ f. (f.member.which, f.mode, f.named)) found.items)) }
     ensures shards { IfOk result (λ found. map (λ f. f.member.shard.value) found.items ≡ parts.now) }
+    ensures looked { HasLookedAlong (slots_of parts.now) pass.old pass.new }
+    ensures all { OnOk result (HasLookedAt (slots_of parts.now) pass.old pass.new) }
     ensures onward { IsOnward W.opening pass.old pass.new }
 {
     let mut found = Vec::new(alloc);

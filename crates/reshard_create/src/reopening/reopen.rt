@@ -1,11 +1,13 @@
 //! Makes a workflow again whose controller stopped, from a look at each of its shards.
-ghost use Rattle.std.specs.Prelude.{◌≡◌, ◌⊎◌, ◌≤◌, ◌++◌, true, IfOk, IfErr, drop, length, map};
+ghost use Rattle.std.specs.Prelude.{◌≡◌, ◌⊎◌, ◌≤◌, ◌++◌, true, IfOk, IfErr, OnOk, IsPermutation, drop, length, map};
 ghost use Rattle.journal.specs.Runs.{IsLegal};
 ghost use Rattle.serving.specs.Partitions.{IsPartition, AreOf};
 ghost use Rattle.shard_law.specs.Entries.{MayFollow};
 ghost use Rattle.reshard_cutover.specs.FollowSteps.{IsOnward};
 ghost use Rattle.reshard_cutover.specs.Steps.{named_for};
 ghost use Rattle.reshard_create.specs.reopening.Rebuilt.{AreMadeAgain, IsReopenRefusal, IsRefitted};
+ghost use Rattle.reshard_create.specs.Looked.{slots_of, HasLookedAlong};
+ghost use Rattle.reshard_cutover.specs.Turns.{HasLookedAt};
 ghost use Rattle.reshard_create.specs.reopening.inner.Snapshots.{IsBoth};
 
 use crate::reopening::cutover_progress::CutoverProgress;
@@ -37,6 +39,8 @@ fn find_both<W: World, J: Naming>(
     ensures found { IfOk result (λ b. IsBoth W.opening pass.old pass.new from.now into.now (map (λ f. (f.member.which, f.mode, f.named)) b.sources.items)
         (map (λ f. (f.member.which, f.mode, f.named)) b.targets.items)) }
     ensures shards { IfOk result (λ b. map (λ f. f.member.shard.value) b.targets.items ≡ into.now) }
+    ensures looked { HasLookedAlong (slots_of (from.now ++ into.now)) pass.old pass.new }
+    ensures all { OnOk result (HasLookedAt (slots_of (from.now ++ into.now)) pass.old pass.new) }
     ensures onward { IsOnward W.opening pass.old pass.new }
 {
     let sources = find_all(rt, alloc, pass, from)?;
@@ -72,6 +76,8 @@ fn find_again<W: World, J: Naming>(
         (map (λ t. (t.member.which, map (λ s. s.which) t.sources.items)) a.targets.items) a.progress.frozen a.progress.retired a.progress.served) }
     ensures fit { IfOk result (λ a. IsRefitted keyspace a.rest.items (map (λ s. s.member.which) a.sources.items)
         (map (λ t. (t.member.which, map (λ s. s.which) t.sources.items)) a.targets.items) (map (λ t. t.member.shard.value) a.targets.items)) }
+    ensures looked { HasLookedAlong (slots_of (from.now ++ into.now)) pass.old pass.new }
+    ensures all { OnOk result (HasLookedAt (slots_of (from.now ++ into.now)) pass.old pass.new) }
     ensures refused { IfErr result (IsReopenRefusal W.opening pass.old pass.new keyspace from.now into.now) }
     ensures onward { IsOnward W.opening pass.old pass.new }
 {
@@ -125,6 +131,7 @@ fn memory_of<W: World, J: Naming>(
     requires home { AreOf keyspace (rest.now ++ map (λ t. t.member.shard.value) targets.now) }
     ensures named { IfOk result (λ m. m.named.items ≡ map (λ s. named_for s.member.which (map (λ t. t.member.which) targets.now)) (drop retired sources.now)) }
     ensures next { IfOk result (λ m. AreOf keyspace m.next.value) }
+    ensures parts { IfOk result (λ m. IsPermutation (rest.now ++ map (λ t. t.member.shard.value) targets.now) m.next.value) }
 {
     let next = next_partition(alloc, keyspace, rest, targets)?;
     let named = named_of_all(alloc, unretired(sources, retired), targets)?;
@@ -161,6 +168,9 @@ pub fn reopen_workflow<W: World, J: Naming>(
     ensures named { IfOk result (λ t. t.memory.named.items
         ≡ map (λ s. named_for s.member.which (map (λ t. t.member.which) t.again.targets.items)) (drop t.again.progress.retired t.again.sources.items)) }
     ensures next { IfOk result (λ t. AreOf keyspace t.memory.next.value) }
+    ensures parts { IfOk result (λ t. IsPermutation (t.again.rest.items ++ map (λ t. t.member.shard.value) t.again.targets.items) t.memory.next.value) }
+    ensures looked { HasLookedAlong (slots_of (from.now ++ into.now)) pass.old pass.new }
+    ensures all { OnOk result (HasLookedAt (slots_of (from.now ++ into.now)) pass.old pass.new) }
     ensures refused { IfErr result (IsReopenRefusal W.opening pass.old pass.new keyspace from.now into.now) }
     ensures onward { IsOnward W.opening pass.old pass.new }
 {

@@ -1,4 +1,4 @@
-use Rattle.std.proofs.Common.{◌≡◌, sym, ap, ◌∙◌, subst, rules, refl}
+use Rattle.std.proofs.Common.{◌≡◌, ℕ, [], ◌∷◌, sym, ap, ◌∙◌, subst, rules, refl}
 use Rattle.std.specs.Sync.Mutex.{mutex_guard_value}
 use Rattle.keyrange.specs.declared.KeyRange.{KeyRange}
 use Rattle.shard_run.specs.declared.ShardRecord.{ShardRecord}
@@ -7,8 +7,12 @@ use Rattle.shard_run.specs.Runs.{Run, mode}
 use Rattle.shard_law.specs.Legal.{IsOnItsSlot}
 use Rattle.shard.proofs.Found.{of_run}
 use Rattle.shard.proofs.LockedLooks.{LookedAs, looked_as, mode_stays}
+use Rattle.shard.specs.Entries.{ShardView}
+use Rattle.reshard_cutover.specs.Turns.{HasLookedAt}
+use Rattle.reshard_cutover.proofs.Turns.{looked_at, one_look_here}
 use Rattle.reshard_cutover.proofs.Onward.{looked_first}
 use Rattle.reshard_create.specs.Begun.{IsNotFollowing}
+use Rattle.reshard_create.proofs.SeenShards.{sighted_at}
 use Rattle.reshard_create.proofs.looks.look_at.Goals as goal
 
 pub returns-clause-sighted : goal.returns-clause-sighted
@@ -42,3 +46,25 @@ returns-clause-now g c = sym (ap (λ (x : Rattle.journal.specs.Views.PassView Ra
 pub returns-clause-onward : goal.returns-clause-onward
 returns-clause-onward g c =
     looked_first g.W.World.opening c.args.pass.now c.look.new.pass _ _ _ c.requires.legal c.look.ensures.seen c.look.ensures.pass
+
+pub returns-clause-seen : goal.returns-clause-seen
+returns-clause-seen g c = (
+  c.look.new.self.shard,
+  sighted_at g.W.World.opening c.args.pass.now c.look.new.pass c.args.keyspace IsNotFollowing c.args.part.now c.look.new.self.shard (returns-clause-onward g c).later
+      (returns-clause-sighted g c),
+)
+
+pub returns-clause-looked : goal.returns-clause-looked
+returns-clause-looked g c =
+    let old = mutex_guard_value c.lock_when-state.result in
+    let on : old.shard.slot ≡ c.slot-slot.result = search rules in
+    let same : c.deref_mut.result.now.shard.slot ≡ c.args.part.now.0 = ap (λ (v : ShardView). v.shard.slot) c.deref_mut.ensures.value ∙ on ∙ c.slot-slot.ensures in
+    subst (λ (n : ℕ). HasLookedAt (n ∷ []) c.args.pass.now c.look.new.pass) same
+    (looked_at c.args.pass.now c.look.new.pass _ _ _ c.look.ensures.pass)
+
+pub returns-clause-ends : goal.returns-clause-ends
+returns-clause-ends g c =
+    let old = mutex_guard_value c.lock_when-state.result in
+    let on : old.shard.slot ≡ c.slot-slot.result = search rules in
+    let same : c.deref_mut.result.now.shard.slot ≡ c.args.part.now.0 = ap (λ (v : ShardView). v.shard.slot) c.deref_mut.ensures.value ∙ on ∙ c.slot-slot.ensures in
+    (c.args.pass.now.looks, one_look_here c.args.pass.now c.look.new.pass _ _ _ same c.look.ensures.pass)
