@@ -15,8 +15,9 @@ use Rattle.reshard.specs.declared.cutover.CutoverStep.{CutoverStep}
 use Rattle.reshard.specs.declared.cutover.CutoverStep.TheVariants.{Release}
 use Rattle.reshard.specs.Workflows.{WorkflowView}
 use Rattle.reshard_create.specs.TargetSources.{TargetWithSources}
-use Rattle.reshard.specs.Cutover.{IsFurther, HasFinished, HasSwitched, HasStopped, HasStoppedLater, MaySwitch}
-use Rattle.reshard_create.specs.Looks.{IsCutOver}
+use Rattle.reshard.specs.Cutover.{IsFurther, HasFinished, HasSwitched, HasSwitchedOn, HasSwitchedToTheEnd, HasStopped, HasStoppedLater, MaySwitch}
+use Rattle.reshard_create.specs.Looks.{IsCutOver, slots_of_both}
+use Rattle.reshard_create.specs.Turns.{HasLookedAt}
 use Rattle.reshard_create.proofs.Onward.{onward_trans}
 use Rattle.reshard.specs.Cutover as cut
 
@@ -94,6 +95,19 @@ finished w now q far end out sources targets s t through = record {
       far
       ∙ ap (λ (x : Stage). record w { stage = x; frozen = now.frozen; retired = now.retired; served = now.served; stored = now.stored; prepared = now.prepared; published = now.published }) end
       ∙ ap (λ (b : Bool). record w { stage = Switched; frozen = now.frozen; retired = now.retired; served = now.served; stored = now.stored; prepared = now.prepared; published = b }) out;
+}
+
+-- all steps of a cutover, and the looks after them
+pub through : (o : Opening) (w now : WorkflowView) (p last q : PassView Entry) → IsFurther w now → HasSwitchedOn o w p now last → (sources : List ShardRecord)
+    (targets : List TargetWithSources) → sources ≡ now.sources → targets ≡ now.targets → IsOnward o last q → HasLookedAt (slots_of_both sources targets) last q
+    → HasSwitchedToTheEnd o w now p q
+through o w now p last q far steps sources targets s t after looked = record {
+  last = last;
+  steps = steps;
+  after = after;
+  looked =
+      subst (λ (l : List TargetWithSources). HasLookedAt (slots_of_both w.sources l) last q) (t ∙ ap (λ (v : WorkflowView). v.targets) far)
+      (subst (λ (l : List ShardRecord). HasLookedAt (slots_of_both l targets) last q) (s ∙ ap (λ (v : WorkflowView). v.sources) far) looked);
 }
 
 -- a refusal in a step of a cutover that had gone on

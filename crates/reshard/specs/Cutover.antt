@@ -1,5 +1,5 @@
 -- What the steps of a cutover do to a workflow and to what the controller's pass has seen.
-use Rattle.std.specs.Prelude.{◌≡◌, ◌⊎◌, ◌≤◌, ◌+◌, ◌^◌, ◌∷◌, [], true, false, List, length, Contains, Some, slice_get, slice_set}
+use Rattle.std.specs.Prelude.{◌≡◌, ℕ, ◌⊎◌, ◌≤◌, ◌+◌, ◌^◌, ◌∷◌, [], true, false, List, length, Contains, Some, slice_get, slice_set}
 use Rattle.std.specs.List.{AllByRecursion}
 use Rattle.vt_value.specs.declared.refusal.Refusal.TheVariants.{OutOfMemory, ShardFull}
 use Rattle.journal.specs.Views.{PassView}
@@ -9,7 +9,7 @@ use Rattle.shard_run.specs.declared.Event.TheVariants as events
 use Rattle.shard_run.specs.Runs.{Opening, Run, entries_on, stored_on}
 use Rattle.reshard_create.specs.Limits.{Limits}
 use Rattle.reshard_create.specs.FollowSteps.{IsOnward, IsRunBetween, HasStepped, HasMovedWith, IsFull}
-use Rattle.reshard_create.specs.Turns.{EachInTurn}
+use Rattle.reshard_create.specs.Turns.{EachInTurn, HasLookedAt}
 use Rattle.reshard_create.specs.Step.TheVariants as moves
 use Rattle.reshard_create.specs.ReshardFault.{ReshardFault}
 use Rattle.reshard_create.specs.ReshardFault.TheVariants.{Refused}
@@ -19,7 +19,7 @@ use Rattle.reshard.specs.declared.finishing.Resumed.{Resumed}
 use Rattle.reshard.specs.declared.finishing.Resumed.TheVariants.{Thawed, Finished}
 use Rattle.reshard.specs.declared.cutover.CutoverStep.TheVariants.{Freeze, Copy, Follow, Retire, Serve, Publish, Release}
 use Rattle.reshard_create.specs.Steps.{named_for}
-use Rattle.reshard_create.specs.Looks.{HasLookedOnlyAt, HasLookedForOneChange, HasThawed, IsServingAgain, IsCutOver, IsOverfull, IsWithinRows}
+use Rattle.reshard_create.specs.Looks.{HasLookedOnlyAt, HasLookedForOneChange, HasThawed, IsServingAgain, IsCutOver, IsOverfull, IsWithinRows, slots_of_both}
 use Rattle.reshard.specs.Workflows.{WorkflowView}
 use Rattle.reshard_create.specs.TargetSources.{TargetWithSources, shards_of}
 use Rattle.reshard_create.specs.Step.{Step}
@@ -105,12 +105,34 @@ pub data HasMovedOn (targets : List TargetWithSources) (p : PassView Entry) : Pa
 abbrev pub HaveCome : List TargetWithSources → PassView Entry → PassView Entry → Type 0
 HaveCome targets p now = EachInTurn (λ (t : TargetWithSources). HasMovedOn (t ∷ [])) targets p now
 
--- Before a cutover begins each target copies all tables of each of its sources: at a run that the pass came by it had copied all of the source, and was
--- level with it (IsLevel). Then the targets move on. All of these are steps of targets with sources of theirs, by which no mode changes.
+-- so many steps one after the other, each of the first of the targets that isn't level, by which it follows an entry
+pub data HasFollowed (o : Opening) (targets : List TargetWithSources) (p : PassView Entry) : ℕ → PassView Entry → Type 0 where
+  unfollowed : HasFollowed o targets p 0 p
+  followed_one : {n : ℕ} {q now : PassView Entry} → HasFollowed o targets p n q → HasMovedFirst o targets q now moves.Followed
+      → IsOneStepFirst targets q now moves.Followed → HasFollowed o targets p (n + 1) now
+
+-- The sources of a target are written faster than it follows: it followed at least 65,536 entries one after the other, and wasn't level between
+-- them, so it could copy no rows.
+pub record IsOutrun (o : Opening) (t : TargetWithSources) (p now : PassView Entry) : Type 0 where
+  pub first : PassView Entry
+  pub since : IsOnward o p first
+  pub count : ℕ
+  pub many : 2 ^ 16 ≤ count
+  pub last : PassView Entry
+  pub followed : HasFollowed o (t ∷ []) first count last
+  pub later : IsOnward o last now
+
+-- At a run that the pass came by the target had copied all tables of each of its sources, and was level with them (IsLevel); or these are
+-- written faster than it follows.
+abbrev pub HasCopiedAllOf : Opening → PassView Entry → PassView Entry → TargetWithSources → Type 0
+HasCopiedAllOf o p now t = HasMovedWith o t.1 t.0 p now moves.Level ⊎ IsOutrun o t p now
+
+-- Before a cutover begins each target copies all tables of each of its sources, unless these are written faster than it follows. Then the targets
+-- move on. All of these are steps of targets with sources of theirs, by which no mode changes.
 pub record HaveComeNear (o : Opening) (targets : List TargetWithSources) (p now : PassView Entry) : Type 0 where
   pub at : PassView Entry
   pub come : HaveCome targets p at
-  pub copied : AllByRecursion (λ (t : TargetWithSources). HasMovedWith o t.1 t.0 p at moves.Level) targets
+  pub copied : AllByRecursion (HasCopiedAllOf o p at) targets
   pub further : HasMovedOn targets at now
 
 -- steps of a cutover, one after the other, from one workflow to another, and nothing else
@@ -119,14 +141,18 @@ pub data HasSwitchedOn (o : Opening) (w : WorkflowView) (p : PassView Entry) : W
   switched : {mid now : WorkflowView} {q r : PassView Entry} {step : CutoverStep} → HasSwitchedOn o w p mid q → HasSwitched o mid now q r step
       → DoesNoMore mid q r step → HasSwitchedOn o w p now r
 
--- A whole cutover: the targets come near, and only then its steps are taken, of which the first is the first freeze. After the last one the pass
--- looks once more at what they did.
+-- Steps of a cutover, one after the other. After the last one the pass looks once at each source and once at each target, and does nothing else.
+pub record HasSwitchedToTheEnd (o : Opening) (w now : WorkflowView) (p q : PassView Entry) : Type 0 where
+  pub last : PassView Entry
+  pub steps : HasSwitchedOn o w p now last
+  pub after : IsOnward o last q
+  pub looked : HasLookedAt (slots_of_both w.sources w.targets) last q
+
+-- A whole cutover: the targets come near, and only then its steps are taken, of which the first is the first freeze.
 pub record HasCutOver (o : Opening) (w now : WorkflowView) (p q : PassView Entry) : Type 0 where
   pub before : PassView Entry
   pub near : HaveComeNear o w.targets p before
-  pub last : PassView Entry
-  pub steps : HasSwitchedOn o w before now last
-  pub after : IsOnward o last q
+  pub rest : HasSwitchedToTheEnd o w now before q
 
 -- The first source may retire: all are frozen, each target was found level with its sources, and then, at a run that the pass came by, with no
 -- more rows than a shard that serves may have.
@@ -170,7 +196,7 @@ pub record HasStoppedLater (o : Opening) (most : Limits) (w now : WorkflowView) 
   pub onward : IsOnward o p before
   pub stopped : HasStopped o most mid now before q e
 
--- What becomes of a cutover that had begun: it is given up, of which no source was retired; else it is through.
+-- What becomes of a cutover that had begun: it is given up, of which no source was retired; else the steps are taken that are left.
 pub data IsResumed (o : Opening) (w now : WorkflowView) (p q : PassView Entry) : Resumed → Type 0 where
   thawed : HasGivenUp o w now p q → IsResumed o w now p q Thawed
-  finished : (w.retired ≡ 0 → ⊥) → HasFinished w now q → IsResumed o w now p q Finished
+  finished : (w.retired ≡ 0 → ⊥) → HasFinished w now q → HasSwitchedToTheEnd o w now p q → IsResumed o w now p q Finished

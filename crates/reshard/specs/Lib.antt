@@ -5,6 +5,7 @@ pub mod Reopened
 pub mod Served
 pub use Rattle.reshard_create.specs.Begun
 pub use Rattle.reshard_create.specs.Configs
+pub use Rattle.reshard_create.specs.Looked
 pub use Rattle.reshard_create.specs.ReshardFault
 pub use Rattle.reshard_create.specs.FirstMoves
 pub use Rattle.reshard_create.specs.Looks

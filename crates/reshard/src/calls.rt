@@ -7,9 +7,11 @@ ghost use Rattle.journal.specs.Runs.{IsLegal};
 ghost use Rattle.shard_run.specs.Openings.{IsOpening};
 ghost use Rattle.reshard_create.specs.Entries.{MayFollow};
 ghost use Rattle.reshard_create.specs.FollowSteps.{IsOnward};
+ghost use Rattle.vt_value.specs.declared.refusal.Refusal.TheVariants.{ShardFull};
 ghost use Rattle.reshard_create.specs.Configs.{IsFree, IsReshardConfig};
-ghost use Rattle.reshard_create.specs.FirstMoves.{HasMovedFirst, IsMoveRefusal, IsOneStepFirst, IsNoStepFirst};
+ghost use Rattle.reshard_create.specs.FirstMoves.{HasMovedFirst, IsMoveRefusal, IsOneStepFirst, IsNoStepFirst, IsFullFirst};
 ghost use Rattle.reshard_create.specs.Begun.{HasBegun, IsCreateRefusal};
+ghost use Rattle.reshard_create.specs.Looked.{HasLookedAtParts, HasLookedAtEach};
 
 use crate::context::{Replacement, WorkflowContext};
 use crate::workflow::{Stage, Workflow};
@@ -30,7 +32,9 @@ impl<W: World, J: Naming> Workflow<W, J> {
     // memory, and the causes are judged in this order: one is there already (N4); no source is named, there are fewer parts of the named ranges
     // than names, or the shard of one is frozen or retired (N5); targets that overlap (N2), or that don't hold what the named ranges do (N1);
     // too few slots (N3). A partition that N5 or N3 speaks of is one of shards of the run, each of which was found in this call, and doesn't
-    // follow. Then nothing changed, and no slot is taken: targets that were made give theirs back
+    // follow, and a shard that is frozen or retired is one that this call looked at last. Then nothing changed, and no slot is taken: targets that
+    // were made give theirs back. The call looks once at each of the parts that it judges, so at each source, and at no other shard: it changes no
+    // shard's mode
     // With: Workflow::{stage, create}
     /// A controller of a keyspace and these free slots, which has no workflow.
     pub fn new(
@@ -101,6 +105,8 @@ impl<W: World, J: Naming> Workflow<W, J> {
         ensures refused { IfErr result (λ e. ((e ≡ ReshardFault.WrongState) × (self.old.stage ≡ Stage.None → ⊥) × (pass.new ≡ pass.old))
             ⊎ ((self.old.stage ≡ Stage.None) × IsCreateRefusal W.opening pass.old pass.new self.old.keyspace (length self.old.free) replacement.now.sources.now replacement.now.targets.now e)) }
         ensures taken { OnOk result (self.old.free ≡ self.new.free ++ reverse (map (λ t. t.0.slot) self.new.targets)) }
+        ensures looked { self.old.stage ≡ Stage.None → HasLookedAtParts W.opening self.old.keyspace pass.old pass.new }
+        ensures each { OnOk result (HasLookedAtEach (map (λ s. s.slot) self.new.sources) pass.old pass.new) }
         ensures same { OnErr result (self.new ≡ self.old) }
         ensures onward { IsOnward W.opening pass.old pass.new }
     {
@@ -121,6 +127,7 @@ impl<W: World, J: Naming> Workflow<W, J> {
         self.sources = begun.sources;
         self.targets = begun.targets;
         self.rest = begun.rest;
+        self.next = None;
         self.frozen = 0;
         self.retired = 0;
         self.served = 0;
@@ -133,8 +140,8 @@ impl<W: World, J: Naming> Workflow<W, J> {
     // Promise: A step of a workflow brings the first target forward, in the order of their ranges, that isn't level with its sources, by
     // exactly one entry; or all are level, and there is none. Its pass looks once at each target and source that it finds level, and then as one
     // step with one source does, so it changes no shard's mode, which makes two looks in a row. It is refused only if no targets follow
-    // (N4), a Copy or a Follow of a target that may come next passes a limit of it (F24), or for memory; then the looks of its pass are those of
-    // a step that is refused, and nothing was appended after the last
+    // (N4), a Copy or a Follow of the first target that isn't level passes a limit of it, if it came next (F24), or for memory; then the looks of
+    // its pass are those of a step of this target that is refused, and nothing was appended after the last
     /// Brings the first target forward, in their order, that isn't level with its sources: it takes over the entry that is next, else it
     /// copies the next rows; if all are level, nothing. Refuses if no targets follow; what would pass a limit of a target; and for
     /// want of memory. Then nothing was appended.
@@ -153,6 +160,7 @@ impl<W: World, J: Naming> Workflow<W, J> {
         ensures once { IfOk result (IsOneStepFirst self.old.targets pass.old pass.new) }
         ensures refused { IfErr result (λ e. ((e ≡ ReshardFault.WrongState) × (self.old.stage ≡ Stage.Following → ⊥))
             ⊎ ((self.old.stage ≡ Stage.Following) × IsMoveRefusal W.opening W.limits self.old.targets pass.new e)) }
+        ensures full { IfErr result (λ e. e ≡ ReshardFault.Refused ShardFull → IsFullFirst W.opening W.limits self.old.targets pass.old pass.new) }
         ensures nothing { OnErr result (((self.old.stage ≡ Stage.Following → ⊥) × (pass.new ≡ pass.old)) ⊎ ((self.old.stage ≡ Stage.Following) × IsNoStepFirst self.old.targets pass.old pass.new)) }
         ensures same { self.new ≡ self.old }
         ensures onward { IsOnward W.opening pass.old pass.new }

@@ -1,26 +1,35 @@
 //! Before a cutover each target copies all tables of its sources, while these serve.
-ghost use Rattle.std.specs.Prelude.{◌≡◌, ◌∷◌, [], IfErr, IsTrue, OnOk, map};
+ghost use Rattle.std.specs.Prelude.{◌≡◌, ◌≤◌, ◌∷◌, [], IfErr, IsTrue, OnOk, map};
 ghost use Rattle.std.specs.List.{AllByRecursion};
 ghost use Rattle.shard_run.specs.WellFormed.{is_vschema};
 ghost use Rattle.journal.specs.Runs.{IsLegal};
 ghost use Rattle.shard_run.specs.Openings.{IsOpening};
 ghost use Rattle.reshard_create.specs.Entries.{MayFollow};
-ghost use Rattle.reshard_create.specs.FollowSteps.{IsOnward, HasMovedWith};
+ghost use Rattle.reshard_create.specs.FollowSteps.{IsOnward};
 ghost use Rattle.reshard_create.specs.Overlapping.{TakeFromOwn};
 ghost use Rattle.reshard_create.specs.TargetSources.{TargetWithSources};
 ghost use Rattle.reshard_create.specs.FirstMoves.{IsMoveRefusal};
-ghost use Rattle.reshard.specs.Cutover.{HasMovedOn, HaveCome};
+ghost use Rattle.reshard.specs.Cutover.{HasMovedOn, HaveCome, HasCopiedAllOf};
 
 use journal::Naming;
-use reshard_create::{ReshardFault, ShardPass, Step, TargetShard, World, move_first};
+use reshard_create::{ReshardFault, ShardPass, Step, TargetShard, World, entries_left, move_first};
 use shard_run::VSchema;
 use std::alloc::Global;
 use std::slice;
 use std::sync::Wait;
 use vt_value::Refusal;
 
-// Brings a target forward until it has copied all of its sources, and is level with them. That ends: a source stores at most 2^20 entries, and
-// once no more come, each step leaves fewer rows to copy.
+// A target that follows so many entries one after the other, and is never level between them, is outrun: its sources are written faster.
+const OUTRUN: u64 = 1 << 16;
+
+// How many entries a target of which so many are left may follow one after the other.
+pub(crate) fn most_followed(left: u64) -> u64
+    ensures { 65536 ≤ result }
+{
+    left.saturating_mul(2).saturating_add(OUTRUN)
+}
+
+// Brings a target forward until it has copied all of its sources, and is level with them, or is outrun.
 fn copy_from_sources<W: World, J: Naming>(
     rt: &impl Wait,
     alloc: Global,
@@ -33,22 +42,30 @@ fn copy_from_sources<W: World, J: Naming>(
     requires formed { IsTrue (is_vschema W.opening.schema) }
     requires own { TakeFromOwn ((target.now.member.which, map (λ s. s.which) target.now.sources.items) ∷ []) }
     requires legal { IsLegal (MayFollow W.opening) pass.old.seen }
-    ensures copied { OnOk result (HasMovedWith W.opening (map (λ s. s.which) target.now.sources.items) target.now.member.which pass.old pass.new Step.Level) }
+    ensures copied { OnOk result (HasCopiedAllOf W.opening pass.old pass.new (target.now.member.which, map (λ s. s.which) target.now.sources.items)) }
     ensures come { OnOk result (HasMovedOn ((target.now.member.which, map (λ s. s.which) target.now.sources.items) ∷ []) pass.old pass.new) }
     ensures refused { IfErr result (λ e. IsMoveRefusal W.opening W.limits ((target.now.member.which, map (λ s. s.which) target.now.sources.items) ∷ []) pass.new (ReshardFault.Refused e)) }
     ensures onward { IsOnward W.opening pass.old pass.new }
 {
     let one = slice::from_ref(target);
+    let mut left = most_followed(entries_left(rt, target));
     for _ in rt.forever() {
-        let step = move_first(rt, alloc, pass, schema, one)?;
-        if step == Step::Level {
-            return Ok(());
+        match move_first(rt, alloc, pass, schema, one)? {
+            Step::Level => return Ok(()),
+            Step::Copied => left = OUTRUN,
+            Step::Followed => {
+                if left <= 1 {
+                    return Ok(());
+                }
+                left -= 1;
+            }
         }
     }
     unreachable!()
 }
 
-// Has each of the targets copy all of its sources. What is stored meanwhile is followed, but for what comes once the target was level.
+// Has each of the targets copy all of its sources. What is stored meanwhile is followed, but for what comes once the target was level, or is
+// outrun.
 pub(crate) fn copy_all<W: World, J: Naming>(
     rt: &impl Wait,
     alloc: Global,
@@ -61,7 +78,7 @@ pub(crate) fn copy_all<W: World, J: Naming>(
     requires formed { IsTrue (is_vschema W.opening.schema) }
     requires own { TakeFromOwn (map (λ t. (t.member.which, map (λ s. s.which) t.sources.items)) targets.now) }
     requires legal { IsLegal (MayFollow W.opening) pass.old.seen }
-    ensures copied { OnOk result (AllByRecursion (λ (t : TargetWithSources). HasMovedWith W.opening t.1 t.0 pass.old pass.new Step.Level)
+    ensures copied { OnOk result (AllByRecursion (HasCopiedAllOf W.opening pass.old pass.new)
         (map {B = TargetWithSources} (λ t. (t.member.which, map (λ s. s.which) t.sources.items)) targets.now)) }
     ensures come { OnOk result (HaveCome (map (λ t. (t.member.which, map (λ s. s.which) t.sources.items)) targets.now) pass.old pass.new) }
     ensures refused { IfErr result (λ e. IsMoveRefusal W.opening W.limits (map (λ t. (t.member.which, map (λ s. s.which) t.sources.items)) targets.now) pass.new (ReshardFault.Refused e)) }

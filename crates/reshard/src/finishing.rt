@@ -4,9 +4,7 @@ ghost use Rattle.shard_run.specs.WellFormed.{is_vschema};
 ghost use Rattle.journal.specs.Runs.{IsLegal};
 ghost use Rattle.reshard_create.specs.Entries.{MayFollow};
 ghost use Rattle.reshard_create.specs.FollowSteps.{IsOnward};
-ghost use Rattle.journal.specs.Views.{PassView};
-ghost use Rattle.shard_run.specs.declared.Entry.{Entry};
-ghost use Rattle.reshard.specs.Cutover.{HasCutOver, HasFinished, HasSwitchedOn, IsResumed, HasStoppedLater, MaySwitch};
+ghost use Rattle.reshard.specs.Cutover.{HasCutOver, HasFinished, HasSwitchedToTheEnd, IsResumed, HasStoppedLater, MaySwitch};
 
 use crate::context::WorkflowContext;
 use crate::cutover::CutoverStep;
@@ -39,6 +37,7 @@ impl<W: World, J: Naming> Workflow<W, J> {
         requires begun { self.old.stage ≡ Stage.None → ⊥ }
         requires prepared { self.old.prepared ≡ true }
         ensures finished { HasFinished self.old self.new pass.new }
+        ensures steps { HasSwitchedToTheEnd W.opening self.old self.new pass.old pass.new }
         ensures onward { IsOnward W.opening pass.old pass.new }
     {
         for _ in rt.forever() {
@@ -65,7 +64,7 @@ impl<W: World, J: Naming> Workflow<W, J> {
         requires legal { IsLegal (MayFollow W.opening) pass.old.seen }
         requires home { context.now.serving.now ≡ self.old.keyspace }
         ensures through { OnOk result (HasFinished self.old self.new pass.new) }
-        ensures steps { OnOk result ((last : PassView Entry) × HasSwitchedOn W.opening self.old pass.old self.new last × IsOnward W.opening last pass.new) }
+        ensures steps { OnOk result (HasSwitchedToTheEnd W.opening self.old self.new pass.old pass.new) }
         ensures refused { IfErr result (HasStoppedLater W.opening W.limits self.old self.new pass.old pass.new) }
         ensures onward { IsOnward W.opening pass.old pass.new }
     {
@@ -82,11 +81,12 @@ impl<W: World, J: Naming> Workflow<W, J> {
     // Promise: A whole cutover, begun while targets follow, ends with each source retired and each target serving in what the pass has
     // seen, and the next partition published; else it stopped as a step does, with nothing retired, and was given up. If none was retired when it
     // began, all that it does until the first freeze is steps of targets with their sources, by which each target copies all tables of each of its
-    // sources; then come the steps of the cutover, and nothing else but looks. That the targets come level before the first source freezes is for
-    // tests
+    // sources, unless these are written faster than it follows: then it followed 65,536 entries one after the other, and was never level between
+    // them. Then come the steps of the cutover, and after them one look at each source and at each target, and nothing else. That the targets come
+    // level before the first source freezes is for tests
     /// Takes all steps of the cutover that are left: the targets serve then, in the place of the sources. Before the first source freezes each
-    /// target copies all tables of its sources, however much is written meanwhile, and then the targets come forward, as by `step`, until all
-    /// are level, or twice as many entries were followed as their sources have stored by then.
+    /// target copies all tables of its sources, and then the targets come forward, as by `step`, until all are level. A target that follows 65,536
+    /// entries one after the other without being level, and twice those that were left when it began, is outrun, and no more is done for it.
     /// Refuses if no targets follow, or a cutover has begun. For want of memory, and if a shard would have more rows or entries than it may, the cutover is given up, of which
     /// no source is retired: each source serves again, the statements that waited go on, and the targets follow.
     pub fn switch_traffic(
@@ -125,8 +125,9 @@ impl<W: World, J: Naming> Workflow<W, J> {
     }
 
     // Promise: A cutover that had begun is thawed, of which no source was retired: each source serves again and isn't looked at after that,
-    // and the targets follow; else it is finished: each source is retired, and each target serves. Refused exactly when none had begun (N4).
-    // It takes no memory
+    // and the targets follow; else it is finished: each source is retired, and each target serves. Then it does the steps of the cutover that are
+    // left, and after them looks once at each source and at each target, and does nothing else. Refused exactly when none had begun (N4). It takes
+    // no memory
     /// Ends a cutover that has begun: if no source is retired, each is thawed that is frozen, the statements that waited go on, and the
     /// targets follow; else the cutover is finished. Refuses if none has begun. Takes no memory.
     pub fn resume(

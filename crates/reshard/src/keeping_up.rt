@@ -10,40 +10,22 @@ ghost use Rattle.reshard_create.specs.FirstMoves.{IsMoveRefusal};
 ghost use Rattle.reshard.specs.Cutover.{HasMovedOn, HaveComeNear, HasStopped};
 
 use crate::context::WorkflowContext;
-use crate::copying::copy_all;
+use crate::copying::{copy_all, most_followed};
 use crate::workflow::{Stage, Workflow};
 use journal::Naming;
-use reshard_create::{ReshardFault, ShardPass, ShardState, Step, TargetShard, World, move_first};
-use shard_run::{Mode, VSchema};
+use reshard_create::{ReshardFault, ShardPass, Step, TargetShard, World, entries_left, move_first};
+use shard_run::VSchema;
 use std::alloc::Global;
 use std::sync::Wait;
 use vt_value::Refusal;
 
-// How many entries a source has stored that serves.
-fn stored_in<W: World, J: Naming>(state: &ShardState<W, J>) -> u64 {
-    if state.mode() == Mode::Serving {
-        state.stored()
-    } else {
-        0
-    }
-}
-
-// How many its sources have stored together.
-fn stored_for<W: World, J: Naming>(rt: &impl Wait, target: &TargetShard<W, J>) -> u64 {
-    let mut stored = 0u64;
-    for source in target.sources.as_slice() {
-        stored = stored.saturating_add(stored_in(&source.shard.lock(rt)));
-    }
-    stored
-}
-
-// Twice as many as the targets' sources have stored, each counted for each target that takes from it.
-fn most_followed<W: World, J: Naming>(rt: &impl Wait, targets: &[TargetShard<W, J>]) -> u64 {
-    let mut stored = 0u64;
+// How many entries the targets may follow before the cutover begins: twice those that are left, and some more.
+fn most_further<W: World, J: Naming>(rt: &impl Wait, targets: &[TargetShard<W, J>]) -> u64 {
+    let mut left = 0u64;
     for target in targets {
-        stored = stored.saturating_add(stored_for(rt, target));
+        left = left.saturating_add(entries_left(rt, target));
     }
-    stored.saturating_mul(2)
+    most_followed(left)
 }
 
 // Brings the first target forward that isn't level, until all are, or so many entries were followed.
@@ -80,8 +62,7 @@ fn come_level<W: World, J: Naming>(
     unreachable!()
 }
 
-// Has the targets copy all, whatever is stored meanwhile, and then brings them level, until all are, or twice as many entries were followed
-// as their sources have stored by then.
+// Has the targets copy all, unless one is outrun, and then brings them level, until all are, or so many entries were followed.
 fn come_near<W: World, J: Naming>(
     rt: &impl Wait,
     alloc: Global,
@@ -99,7 +80,7 @@ fn come_near<W: World, J: Naming>(
     ensures onward { IsOnward W.opening pass.old pass.new }
 {
     copy_all(rt, alloc, pass, schema, targets)?;
-    let most = most_followed(rt, targets);
+    let most = most_further(rt, targets);
     come_level(rt, alloc, pass, schema, targets, most)
 }
 

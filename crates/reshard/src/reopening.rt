@@ -1,10 +1,12 @@
 //! A workflow whose controller stopped is made again from its shards.
-ghost use Rattle.std.specs.Prelude.{◌≡◌, ◌⊎◌, false, IfErr, IfSome, IsSome, OnOk, OnErr};
+ghost use Rattle.std.specs.Prelude.{◌≡◌, ◌⊎◌, ◌++◌, false, IfErr, IfSome, IsSome, OnOk, OnErr};
 ghost use Rattle.journal.specs.Runs.{IsLegal};
 ghost use Rattle.reshard_create.specs.Entries.{MayFollow};
 ghost use Rattle.reshard_create.specs.FollowSteps.{IsOnward};
 ghost use Rattle.reshard.specs.Reopened.{IsReopened, has_any, stage_at};
 ghost use Rattle.reshard_create.specs.reopening.Rebuilt.{IsReopenRefusal};
+ghost use Rattle.reshard_create.specs.Looked.{slots_of, HasLookedAlong};
+ghost use Rattle.reshard_create.specs.Turns.{HasLookedAt};
 
 use crate::context::Replacement;
 use crate::workflow::{Stage, Workflow};
@@ -75,6 +77,8 @@ impl<W: World, J: Naming> Workflow<W, J> {
         ensures refused { IfErr result (λ e. ((e ≡ ReshardFault.WrongState) × (self.old.stage ≡ Stage.None → ⊥) × (pass.new ≡ pass.old))
             ⊎ ((self.old.stage ≡ Stage.None) × IsReopenRefusal W.opening pass.old pass.new self.old.keyspace replacement.now.sources.now replacement.now.targets.now e)) }
         ensures same { OnErr result (self.new ≡ self.old) }
+        ensures looked { HasLookedAlong (slots_of (replacement.now.sources.now ++ replacement.now.targets.now)) pass.old pass.new }
+        ensures all { OnOk result (HasLookedAt (slots_of (replacement.now.sources.now ++ replacement.now.targets.now)) pass.old pass.new) }
         ensures onward { IsOnward W.opening pass.old pass.new }
     {
         if self.stage != Stage::None {

@@ -43,7 +43,7 @@ pub struct Workflow<W: World, J: Naming> {
 }
 
 impl<W: World, J: Naming> Model for Workflow<W, J> {
-    ghost use Rattle.std.specs.Prelude.{◌≡◌, true, false, map, IfSome, IsSome};
+    ghost use Rattle.std.specs.Prelude.{◌≡◌, ◌++◌, true, false, map, IfSome, IsSome, IsPermutation};
     ghost use Rattle.serving.specs.Partitions.{AreOf};
     ghost use Rattle.std.specs.Vec.Iter.{into_iter_items};
     ghost use Rattle.reshard.specs.Workflows.{WorkflowView, IsWorkflow};
@@ -70,5 +70,6 @@ impl<W: World, J: Naming> Model for Workflow<W, J> {
         × IsPrepared (map (λ s. s.member.which) w.sources.items) (map (λ t. (t.member.which, map (λ s. s.which) t.sources.items)) w.targets.items) w.retired w.prepared
         (into_iter_items w.named)
         × IfSome w.next (λ next. AreOf w.config.keyspace next.value)
-        × (w.prepared ≡ true → w.published ≡ false → IsSome w.next) };
+        × (w.prepared ≡ true → w.published ≡ false → IsSome w.next)
+        × IfSome w.next (λ next. IsPermutation (w.rest.items ++ map (λ t. t.member.shard.value) w.targets.items) next.value) };
 }

@@ -1,15 +1,13 @@
 use Rattle.std.proofs.Common.{[], ◌∷◌, map, subst}
 use Rattle.std.specs.Prelude.{Contains}
 use Rattle.std.specs.List.{AllByRecursion}
-use Rattle.reshard_create.specs.FollowSteps.{HasMovedWith}
 use Rattle.reshard_create.specs.ReshardFault.TheVariants.{Refused}
-use Rattle.reshard_create.specs.Step.TheVariants.{Level}
 use Rattle.reshard_create.specs.TargetSources.{TargetWithSources}
 use Rattle.reshard_create.specs.Turns as turns
 use Rattle.reshard_create.proofs.Retiring.{item_of, map_at}
 use Rattle.reshard_create.proofs.Onward.{still, onward_trans}
 use Rattle.reshard_create.proofs.Residual.{residual_same}
-use Rattle.reshard.specs.Cutover.{HasMovedOn, HaveCome}
+use Rattle.reshard.specs.Cutover.{HasMovedOn, HaveCome, HasCopiedAllOf}
 use Rattle.reshard.proofs.AllCopied.{among, refused_one, copied_next, turn_next, all_of}
 use Rattle.reshard.proofs.copying.copy_all.Goals as goal
 
@@ -56,7 +54,7 @@ loop-target-preserved g c =
 
 pub returns-clause-copied : goal.returns-clause-copied
 returns-clause-copied g c =
-    subst (λ l. AllByRecursion (λ (t : TargetWithSources). HasMovedWith g.W.World.opening t.1 t.0 c.args.pass.now c.loop-target.pass Level)
+    subst (λ l. AllByRecursion (HasCopiedAllOf g.W.World.opening c.args.pass.now c.loop-target.pass)
     (map {B = TargetWithSources} (λ t. (t.member.which, map (λ s. s.which) t.sources.items)) l))
     (all_of c.args.targets.now c.loop-target.target-index c.loop-target-test.false) c.loop-target.invariant.copied
 

@@ -1,9 +1,8 @@
 use Rattle.std.proofs.Common.{map, take}
 use Rattle.std.specs.List.{AllByRecursion}
-use Rattle.reshard_create.specs.FollowSteps.{IsOnward, HasMovedWith}
-use Rattle.reshard_create.specs.Step.TheVariants.{Level}
+use Rattle.reshard_create.specs.FollowSteps.{IsOnward}
 use Rattle.reshard_create.specs.TargetSources.{TargetWithSources}
-use Rattle.reshard.specs.Cutover.{HaveCome}
+use Rattle.reshard.specs.Cutover.{HaveCome, HasCopiedAllOf}
 use Rattle.reshard.proofs.copying.copy_all.Given as goal
 
 -- the targets so far have copied all
@@ -12,7 +11,7 @@ invariant-loop-target g l =
     record {
       onward : IsOnward g.W.World.opening l.fn.pass l.pass;
       copied :
-          AllByRecursion (λ (t : TargetWithSources). HasMovedWith g.W.World.opening t.1 t.0 l.fn.pass l.pass Level)
+          AllByRecursion (HasCopiedAllOf g.W.World.opening l.fn.pass l.pass)
           (map {B = TargetWithSources} (λ t. (t.member.which, map (λ s. s.which) t.sources.items)) (take l.target-index l.targets));
       come : HaveCome (map (λ t. (t.member.which, map (λ s. s.which) t.sources.items)) (take l.target-index l.targets)) l.fn.pass l.pass;
     }

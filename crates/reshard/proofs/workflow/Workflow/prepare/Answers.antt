@@ -1,4 +1,5 @@
-use Rattle.std.proofs.Common.{map, refl, ap, ◌∙◌}
+use Rattle.std.proofs.Common.{◌++◌, map, refl, ap, ◌∙◌, subst}
+use Rattle.std.specs.Prelude.{IsPermutation}
 use Rattle.std.specs.Vec.Iter.{into_iter_items}
 use Rattle.reshard_create.specs.Steps.{named_for}
 use Rattle.reshard.proofs.Nexts.{prepared_now}
@@ -15,4 +16,7 @@ invariant_of-self g c =
           c.self.inside.retired (into_iter_items c.into_iter.result) (c.self.invariant.1.before c.if-self.false) (c.into_iter.ensures.rest ∙ is),
       c.in_ok-next.ensures.next,
       λ _ _. refl,
+      subst (λ l. IsPermutation (l ++ map (λ t. t.member.shard.value) c.self.inside.targets.items) c.in_ok-next.next.value) c.as_slice.ensures.value
+          (subst (λ l. IsPermutation (c.as_slice.result.now ++ map (λ t. t.member.shard.value) l) c.in_ok-next.next.value) c.as_slice-2.ensures.value
+          c.in_ok-next.ensures.parts),
     )

@@ -1,4 +1,5 @@
-use Rattle.std.proofs.Common.{map, ◌∙◌}
+use Rattle.std.proofs.Common.{◌++◌, map, ◌∙◌}
+use Rattle.std.specs.Prelude.{IsPermutation}
 use Rattle.std.specs.Vec.Iter.{into_iter_items}
 use Rattle.serving.specs.Partitions.{AreOf}
 use Rattle.reshard.proofs.Reopens.{prepared_rest, some_same}
@@ -23,4 +24,7 @@ invariant_of-self g c =
       some_same (λ b. b.value) c.in_ok-taken.taken.memory.next.value (AreOf c.self.inside.config.keyspace) c.unless_published.result c.unless_published.ensures.same
           c.in_ok-taken.ensures.next,
       λ _ e. c.unless_published.ensures.there e,
+      some_same (λ b. b.value) c.in_ok-taken.taken.memory.next.value
+          (IsPermutation (c.in_ok-taken.taken.again.rest.items ++ map (λ t. t.member.shard.value) c.in_ok-taken.taken.again.targets.items))
+          c.unless_published.result c.unless_published.ensures.same c.in_ok-taken.ensures.parts,
     )

@@ -12,4 +12,4 @@ returns-then-self-eq0-clause-resumed g c =
 
 pub returns-clause-resumed : goal.returns-clause-resumed
 returns-clause-resumed g c =
-    finished (λ e. c.if-self-eq0.false (ap (λ (w : WorkflowView). w.retired) c.self.view_is ∙ e)) c.finish.ensures.finished
+    finished (λ e. c.if-self-eq0.false (ap (λ (w : WorkflowView). w.retired) c.self.view_is ∙ e)) c.finish.ensures.finished c.finish.ensures.steps

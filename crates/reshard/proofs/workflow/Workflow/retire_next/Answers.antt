@@ -44,6 +44,7 @@ invariant_of-self g c =
       record { before = λ e. absurd (false≢true (sym e ∙ ready)); after = λ e. w.1 },
       c.self.invariant.2,
       c.self.invariant.3,
+      c.self.invariant.4,
     )
 
 pub returns-clause-retired : goal.returns-clause-retired

@@ -5,7 +5,7 @@ use Rattle.reshard.specs.Cutover as cut
 use Rattle.reshard_create.specs.TargetSources.{TargetWithSources}
 use Rattle.reshard_create.proofs.Onward.{still, onward_trans}
 use Rattle.reshard_create.proofs.Residual.{residual_same}
-use Rattle.reshard.proofs.Through.{further_still, further_trans, further_switched, switched_at_end, published_at_end, may_still, finished, refused_later}
+use Rattle.reshard.proofs.Through.{further_still, further_trans, further_switched, switched_at_end, published_at_end, may_still, finished, through, refused_later}
 use Rattle.reshard.proofs.workflow.Workflow.switch_all.Goals as goal
 
 pub loop-init : goal.loop-init
@@ -59,8 +59,14 @@ loop-preserved g c =
     }
 
 pub returns-then-eq-clause-steps : goal.returns-then-eq-clause-steps
-returns-then-eq-clause-steps g c = (
-  c.switch_step.new.pass,
-  cut.switched c.loop.invariant.steps c.in_ok-step.ensures.switched c.in_ok-step.ensures.once,
-  c.confirm_cutover.ensures.onward,
-)
+returns-then-eq-clause-steps g c =
+    let o = g.W.World.opening in
+    let mid = c.loop.self in
+    let now = c.switch_step.new.self in
+    through o c.args.self.now now c.args.pass.now c.switch_step.new.pass c.confirm_cutover.new.pass
+    (further_trans c.args.self.now mid now c.loop.invariant.further (further_switched o mid now c.loop.pass c.switch_step.new.pass c.in_ok-step.step c.in_ok-step.ensures.switched))
+    (cut.switched c.loop.invariant.steps c.in_ok-step.ensures.switched c.in_ok-step.ensures.once) (map (λ s. s.member.which) c.as_slice.result.now)
+    (map (λ t. (t.member.which, map (λ s. s.which) t.sources.items)) c.as_slice-then-eq.result.now)
+    (ap (map (λ s. s.member.which)) c.as_slice.ensures.value ∙ ap (λ (w : WorkflowView). w.sources) c.self.view_is)
+    (ap (map {B = TargetWithSources} (λ t. (t.member.which, map (λ s. s.which) t.sources.items))) c.as_slice-then-eq.ensures.value ∙ ap (λ (w : WorkflowView). w.targets) c.self.view_is)
+    c.confirm_cutover.ensures.onward c.confirm_cutover.ensures.looked

@@ -2,10 +2,7 @@ use Rattle.std.proofs.Common.{rules, ◌≡◌, inl, inr, ap, ◌∙◌, subst}
 use Rattle.std.specs.Prelude.{OnOk}
 use Rattle.reshard.specs.declared.workflow.Stage.TheVariants.{Following}
 use Rattle.reshard.specs.Workflows.{WorkflowView}
-use Rattle.journal.specs.Views.{PassView}
-use Rattle.shard_run.specs.declared.Entry.{Entry}
-use Rattle.reshard_create.specs.FollowSteps.{IsOnward}
-use Rattle.reshard.specs.Cutover.{HasFinished, HasSwitchedOn, HasStoppedLater}
+use Rattle.reshard.specs.Cutover.{HasFinished, HasSwitchedToTheEnd, HasStoppedLater}
 use Rattle.reshard_create.proofs.Onward.{still, onward_trans}
 use Rattle.reshard_create.proofs.Residual.{residual_same}
 use Rattle.reshard.proofs.Through.{further_still, stopped_later, stopped_since, err_as}
@@ -61,11 +58,8 @@ returns-clause-steps g c =
     let q = c.switch_all.new.pass in
     on_ok_weaker c.switch_all.result
     (λ h none.
-    let w = subst (λ (w : WorkflowView). (last : PassView Entry) × HasSwitchedOn o w mid now last × IsOnward o last q) c.in_ok-keep_up.ensures.same h in
     record {
       before = mid;
       near = c.in_ok-keep_up.ensures.near none;
-      last = w.0;
-      steps = w.1;
-      after = w.2;
+      rest = subst (λ (w : WorkflowView). HasSwitchedToTheEnd o w now mid q) c.in_ok-keep_up.ensures.same h;
     }) c.switch_all.ensures.steps
