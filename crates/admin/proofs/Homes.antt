@@ -29,20 +29,20 @@ module _ (o : Opening) (most : Limits) (w now : WorkflowView) (p q : PassView En
 
   of_resumed : (r : Resumed) → IsResumed o w now p q r → now.keyspace ≡ w.keyspace
   of_resumed r (cutover.thawed h) = ap (λ (x : WorkflowView). x.keyspace) h.at
-  of_resumed r (cutover.finished n h) = ap (λ (x : WorkflowView). x.keyspace) h.at
+  of_resumed r (cutover.finished n h steps) = ap (λ (x : WorkflowView). x.keyspace) h.at
 
   of_create : (from into : List KeyRange) (reply : AdminReply) → HasCreated o from into w now p q reply → now.keyspace ≡ w.keyspace
-  of_create from into reply (told.done was begun is taken) = ap (λ (x : WorkflowView). x.keyspace) is
-  of_create from into reply (told.refused was why is) = same w now is
+  of_create from into reply (told.done was begun is taken looked) = ap (λ (x : WorkflowView). x.keyspace) is
+  of_create from into reply (told.refused was why looked is) = same w now is
   of_create from into reply (told.wrong_state not is still) = same w now is
 
   of_move : (reply : AdminReply) → AnswersStep o most w now p q reply → now.keyspace ≡ w.keyspace
   of_move reply (told.done was moved once is) = same w now is
-  of_move reply (told.refused was why none is) = same w now is
+  of_move reply (told.refused was why none full is) = same w now is
   of_move reply (told.wrong_state not is still) = same w now is
 
   of_switch : (reply : AdminReply) → HasCutOver o most w now p q reply → now.keyspace ≡ w.keyspace
-  of_switch reply (told.done was h) = ap (λ (x : WorkflowView). x.keyspace) h.at
+  of_switch reply (told.done was h steps) = ap (λ (x : WorkflowView). x.keyspace) h.at
   of_switch reply (told.refused was h) = ap (λ (x : WorkflowView). x.keyspace) h.stopped.given_up.at ∙ ap (λ (x : WorkflowView). x.keyspace) h.further
   of_switch reply (told.wrong_state not is still) = same w now is
 
@@ -60,7 +60,7 @@ module _ (o : Opening) (most : Limits) (w now : WorkflowView) (p q : PassView En
   of_cancel reply (told.wrong_state not is still) = same w now is
 
   of_complete : (reply : AdminReply) → HasCompleted o w now p q reply → now.keyspace ≡ w.keyspace
-  of_complete reply (told.done was is out) = ap (λ (x : WorkflowView). x.keyspace) is
+  of_complete reply (told.done was is out looked) = ap (λ (x : WorkflowView). x.keyspace) is
   of_complete reply (told.wrong_state not is still) = same w now is
 
   pub keyspace_stays : (words : List ℕ) (reply : AdminReply) → IsAnswered o most words w now p q reply → now.keyspace ≡ w.keyspace

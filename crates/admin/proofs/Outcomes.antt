@@ -5,12 +5,14 @@ use Rattle.journal.specs.Views.{PassView}
 use Rattle.shard_run.specs.declared.Entry.{Entry}
 use Rattle.shard_run.specs.Runs.{Opening}
 use Rattle.route_engine.specs.Limits.{Limits}
+use Rattle.vt_value.specs.declared.refusal.Refusal.TheVariants.{ShardFull}
 use Rattle.reshard.specs.declared.workflow.Stage.TheVariants as stages
 use Rattle.reshard.specs.ReshardFault.{ReshardFault}
 use Rattle.reshard.specs.ReshardFault.TheVariants as faults
 use Rattle.reshard.specs.Workflows.{WorkflowView}
-use Rattle.reshard.specs.FirstMoves.{IsMoveRefusal, IsNoStepFirst}
+use Rattle.reshard.specs.FirstMoves.{IsMoveRefusal, IsNoStepFirst, IsFullFirst}
 use Rattle.reshard.specs.Begun.{IsCreateRefusal}
+use Rattle.reshard.specs.Looked.{HasLookedAtParts}
 use Rattle.reshard.specs.Cutover.{MaySwitch, MayCancel, HasStopped, HasStoppedLater}
 use Rattle.admin.specs.declared.reply.AdminReply.TheVariants.{Refused}
 use Rattle.admin.specs.AdminAnswers.{HasCreated, AnswersStep, HasCutOver, HasAdvanced, HasResumed, HasCancelled, HasCompleted}
@@ -18,12 +20,12 @@ use Rattle.admin.specs.AdminAnswers as told
 
 module _ (o : Opening) (most : Limits) (w now : WorkflowView) (p q : PassView Entry) (e : ReshardFault) where
   pub move_refused : ((e ≡ faults.WrongState) × (w.stage ≡ stages.Following → ⊥)) ⊎ ((w.stage ≡ stages.Following) × IsMoveRefusal o most w.targets q e)
-      → ((w.stage ≡ stages.Following → ⊥) × (q ≡ p)) ⊎ ((w.stage ≡ stages.Following) × IsNoStepFirst w.targets p q) → now ≡ w
-      → AnswersStep o most w now p q (Refused e)
-  move_refused (inl h) (inl k) same = subst (λ x. AnswersStep o most w now p q (Refused x)) (sym h.0) (told.wrong_state h.1 same k.1)
-  move_refused (inl h) (inr k) same = absurd (h.1 k.0)
-  move_refused (inr h) (inl k) same = absurd (k.0 h.0)
-  move_refused (inr h) (inr k) same = told.refused h.0 h.1 k.1 same
+      → ((w.stage ≡ stages.Following → ⊥) × (q ≡ p)) ⊎ ((w.stage ≡ stages.Following) × IsNoStepFirst w.targets p q)
+      → (e ≡ faults.Refused ShardFull → IsFullFirst o most w.targets p q) → now ≡ w → AnswersStep o most w now p q (Refused e)
+  move_refused (inl h) (inl k) full same = subst (λ x. AnswersStep o most w now p q (Refused x)) (sym h.0) (told.wrong_state h.1 same k.1)
+  move_refused (inl h) (inr k) full same = absurd (h.1 k.0)
+  move_refused (inr h) (inl k) full same = absurd (k.0 h.0)
+  move_refused (inr h) (inr k) full same = told.refused h.0 h.1 k.1 full same
 
   pub switch_refused : ((e ≡ faults.WrongState) × (w.stage ≡ stages.Following → ⊥) × (now ≡ w) × (q ≡ p))
       ⊎ ((w.stage ≡ stages.Following) × HasStoppedLater o most w now p q e) → HasCutOver o most w now p q (Refused e)
@@ -38,9 +40,9 @@ module _ (o : Opening) (most : Limits) (w now : WorkflowView) (p q : PassView En
 module _ (o : Opening) (w now : WorkflowView) (p q : PassView Entry) (e : ReshardFault) where
   pub create_refused : (from into : List KeyRange)
       → ((e ≡ faults.WrongState) × (w.stage ≡ stages.None → ⊥) × (q ≡ p)) ⊎ ((w.stage ≡ stages.None) × IsCreateRefusal o p q w.keyspace (length w.free) from into e)
-      → now ≡ w → HasCreated o from into w now p q (Refused e)
-  create_refused from into (inl h) same = subst (λ x. HasCreated o from into w now p q (Refused x)) (sym h.0) (told.wrong_state h.1 same h.2)
-  create_refused from into (inr h) same = told.refused h.0 h.1 same
+      → (w.stage ≡ stages.None → HasLookedAtParts o w.keyspace p q) → now ≡ w → HasCreated o from into w now p q (Refused e)
+  create_refused from into (inl h) looked same = subst (λ x. HasCreated o from into w now p q (Refused x)) (sym h.0) (told.wrong_state h.1 same h.2)
+  create_refused from into (inr h) looked same = told.refused h.0 h.1 (looked h.0) same
 
   pub resume_refused : e ≡ faults.WrongState → (w.stage ≡ stages.Switching → ⊥) → now ≡ w → q ≡ p → HasResumed o w now p q (Refused e)
   resume_refused is not same still = subst (λ x. HasResumed o w now p q (Refused x)) (sym is) (told.wrong_state not same still)

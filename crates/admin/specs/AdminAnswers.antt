@@ -1,7 +1,7 @@
 -- What an admin line did, to the workflow and to what the controller's pass has seen, and what answers it.
 use Rattle.std.specs.Prelude.{◌≡◌, ℕ, false, List, [], ◌∷◌, ◌++◌, length, map, reverse, codes, Contains, Option, Some, None, IsPermutation, IsSorted}
 use Rattle.std.specs.List.{AllByRecursion}
-use Rattle.vt_value.specs.declared.refusal.Refusal.TheVariants.{OutOfMemory}
+use Rattle.vt_value.specs.declared.refusal.Refusal.TheVariants.{OutOfMemory, ShardFull}
 use Rattle.keyrange.specs.declared.KeyRange.{KeyRange}
 use Rattle.serving.specs.Partitions.{Seat, IsPartition, AreOf, ranges}
 use Rattle.journal.specs.Views.{PassView}
@@ -17,10 +17,12 @@ use Rattle.reshard.specs.ReshardFault.{ReshardFault}
 use Rattle.reshard.specs.ReshardFault.TheVariants as faults
 use Rattle.reshard.specs.Workflows.{WorkflowView}
 use Rattle.reshard.specs.Served.{AreServed}
-use Rattle.reshard.specs.FirstMoves.{HasMovedFirst, IsMoveRefusal, IsOneStepFirst, IsNoStepFirst}
+use Rattle.reshard.specs.FirstMoves.{HasMovedFirst, IsMoveRefusal, IsOneStepFirst, IsNoStepFirst, IsFullFirst}
 use Rattle.reshard.specs.Begun.{HasBegun, IsCreateRefusal}
 use Rattle.reshard.specs.Cutover.{MaySwitch, MayCancel, HasSwitched, DoesNoMore, MayRetireFirst, HasStopped, HasStoppedLater, HasFinished, IsResumed}
-use Rattle.reshard.specs.Turns.{EachInTurn}
+use Rattle.reshard.specs.Cutover as cutovers
+use Rattle.reshard.specs.Looked.{HasLookedAtEach, HasLookedAtParts}
+use Rattle.reshard.specs.Turns.{EachInTurn, HasLookedAt}
 use Rattle.reshard.specs.Looks.{HasThawed, IsServingAgain, IsOutOfUse}
 use Rattle.vtgate_lines.specs.Partitions.{range_cmp}
 use Rattle.vtgate_lines.specs.AdminLines.{IsCreate, AsksFor}
@@ -55,7 +57,8 @@ pub data TellsStatus (w : WorkflowView) : AdminReply → Type 0 where
 abbrev pub HasEnded : WorkflowView → WorkflowView → Type 0
 HasEnded w now = now ≡ record w { stage = stages.None; sources = []; targets = []; frozen = 0; retired = 0; served = 0; stored = []; prepared = false; published = false }
 
--- `create` began a workflow, whose targets have the last of the free slots, one for each; or it was refused, and all is as it was.
+-- `create` began a workflow, whose targets have the last of the free slots, one for each, and looked once at each source; or it was refused, and all
+-- is as it was.
 pub data HasCreated (o : Opening) (from into : List KeyRange) (w now : WorkflowView) (p q : PassView Entry) : AdminReply → Type 0 where
   done : w.stage ≡ stages.None → HasBegun o p q now.sources now.targets w.keyspace from into
       → now ≡ record w {
@@ -70,22 +73,24 @@ pub data HasCreated (o : Opening) (from into : List KeyRange) (w now : WorkflowV
         prepared = false;
         published = false;
       }
-      → w.free ≡ now.free ++ reverse (map (λ t. t.0.slot) now.targets) → HasCreated o from into w now p q Done
+      → w.free ≡ now.free ++ reverse (map (λ t. t.0.slot) now.targets) → HasLookedAtEach (map (λ s. s.slot) now.sources) p q
+      → HasCreated o from into w now p q Done
   refused : {e : ReshardFault} → w.stage ≡ stages.None → IsCreateRefusal o p q w.keyspace (length w.free) from into e
-      → now ≡ w → HasCreated o from into w now p q (Refused e)
+      → HasLookedAtParts o w.keyspace p q → now ≡ w → HasCreated o from into w now p q (Refused e)
   wrong_state : (w.stage ≡ stages.None → ⊥) → now ≡ w → q ≡ p → HasCreated o from into w now p q (Refused faults.WrongState)
 
 -- `step` moved the first target that isn't level, by one step and no more; or it was refused, and appended nothing after its last look.
 pub data AnswersStep (o : Opening) (most : Limits) (w now : WorkflowView) (p q : PassView Entry) : AdminReply → Type 0 where
   done : {step : moves.Step} → w.stage ≡ stages.Following → HasMovedFirst o w.targets p q step → IsOneStepFirst w.targets p q step → now ≡ w
       → AnswersStep o most w now p q (Moved step)
-  refused : {e : ReshardFault} → w.stage ≡ stages.Following → IsMoveRefusal o most w.targets q e → IsNoStepFirst w.targets p q → now ≡ w
+  refused : {e : ReshardFault} → w.stage ≡ stages.Following → IsMoveRefusal o most w.targets q e → IsNoStepFirst w.targets p q
+      → (e ≡ faults.Refused ShardFull → IsFullFirst o most w.targets p q) → now ≡ w
       → AnswersStep o most w now p q (Refused e)
   wrong_state : (w.stage ≡ stages.Following → ⊥) → now ≡ w → q ≡ p → AnswersStep o most w now p q (Refused faults.WrongState)
 
 -- `switch` took all steps of the cutover, or gave it up.
 pub data HasCutOver (o : Opening) (most : Limits) (w now : WorkflowView) (p q : PassView Entry) : AdminReply → Type 0 where
-  done : w.stage ≡ stages.Following → HasFinished w now q → HasCutOver o most w now p q Done
+  done : w.stage ≡ stages.Following → HasFinished w now q → (w.retired ≡ 0 → cutovers.HasCutOver o w now p q) → HasCutOver o most w now p q Done
   refused : {e : ReshardFault} → w.stage ≡ stages.Following → HasStoppedLater o most w now p q e → HasCutOver o most w now p q (Refused e)
   wrong_state : (w.stage ≡ stages.Following → ⊥) → now ≡ w → q ≡ p → HasCutOver o most w now p q (Refused faults.WrongState)
 
@@ -107,9 +112,10 @@ pub data HasCancelled (o : Opening) (w now : WorkflowView) (p q : PassView Entry
       → HasCancelled o w now p q Done
   wrong_state : (MayCancel w → ⊥) → now ≡ w → q ≡ p → HasCancelled o w now p q (Refused faults.WrongState)
 
--- `complete` ended the workflow, whose sources are out of use.
+-- `complete` ended the workflow, whose sources are out of use, and looked once at each of these.
 pub data HasCompleted (o : Opening) (w now : WorkflowView) (p q : PassView Entry) : AdminReply → Type 0 where
-  done : w.stage ≡ stages.Switched → HasEnded w now → AllByRecursion (λ s. IsOutOfUse o s p q) w.sources → HasCompleted o w now p q Done
+  done : w.stage ≡ stages.Switched → HasEnded w now → AllByRecursion (λ s. IsOutOfUse o s p q) w.sources
+      → HasLookedAt (map (λ s. s.slot) w.sources) p q → HasCompleted o w now p q Done
   wrong_state : (w.stage ≡ stages.Switched → ⊥) → now ≡ w → q ≡ p → HasCompleted o w now p q (Refused faults.WrongState)
 
 -- What the words of a line did over a workflow. If there is no memory to read it, nothing.
