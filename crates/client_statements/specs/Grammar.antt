@@ -1,6 +1,7 @@
 -- What texts ask of a server, from their tokens: for each rule of the grammar what it reads at the front, and the tokens after that.
-use Rattle.std.specs.Prelude.{ℕ, zero, suc, ◌-◌, ◌||◌, Bool, true, false, List, [], ◌∷◌, ◌++◌, length, take, drop, slice_get, slice_range, codes, bytes_eq, Option, Some, None, unwrap_or, if◌then◌else◌}
+use Rattle.std.specs.Prelude.{ℕ, zero, suc, ◌-◌, ◌&&◌, ◌||◌, Bool, true, false, List, [], ◌∷◌, ◌++◌, length, take, drop, slice_get, slice_range, codes, bytes_eq, nat_le, Option, Some, None, unwrap_or, if◌then◌else◌}
 use Rattle.std.specs.Option.{option_or}
+use Rattle.sql_lexer.specs.Lexemes.{max_word}
 use Rattle.sql_lexer.specs.inner.Results.{◌>>=◌}
 use Rattle.client_statements.specs.declared.tokens.token.Token.{Token}
 use Rattle.client_statements.specs.declared.tokens.token.TokenKind.{TokenKind}
@@ -11,7 +12,7 @@ use Rattle.client_statements.specs.declared.tokens.token.Sign.TheVariants.{Equal
 use Rattle.client_statements.specs.tokens.Keywords.{same_in_any_case}
 use Rattle.client_statements.specs.tokens.Pieces.{Lexeme, bare, named, system, digits, quoted, mark, lexemes_of}
 use Rattle.client_statements.specs.declared.rule.Rule.{Rule}
-use Rattle.client_statements.specs.declared.rule.Rule.TheVariants.{Switch, Modes, AnyValue, ItsValue}
+use Rattle.client_statements.specs.declared.rule.Rule.TheVariants.{Switch, Modes, CharacterSet, AnyValue, ItsValue}
 use Rattle.client_statements.specs.declared.statement.NamedValue.{NamedValue}
 use Rattle.client_statements.specs.declared.statement.NamedValue.TheVariants as asked
 use Rattle.client_statements.specs.declared.statement.ClientStatement.{ClientStatement}
@@ -19,7 +20,7 @@ use Rattle.client_statements.specs.declared.statement.ClientStatement.TheVariant
 use Rattle.client_statements.specs.declared.statement.SelectItem.{SelectItem}
 use Rattle.client_statements.specs.declared.statement.TableName.{TableName}
 use Rattle.client_statements.specs.declared.variable.Variable.{Variable}
-use Rattle.client_statements.specs.Settings.{are_held_modes, rule_of}
+use Rattle.client_statements.specs.Settings.{are_held_modes, is_held_set, rule_of}
 use Rattle.client_statements.specs.Variables.{variable_value, shown_variable, variable_of}
 
 abbrev pub Lexemes : Type 0
@@ -48,6 +49,17 @@ any_at (named bytes ∷ rest) = Some rest
 any_at (digits bytes ∷ rest) = Some rest
 any_at (quoted bytes ∷ rest) = Some rest
 any_at _ = None
+
+-- a name that isn't longer than SQL has it
+abbrev pub short_name : List ℕ → Lexemes → ReadOf (List ℕ)
+short_name bytes rest = if nat_le (length bytes) max_word then Some (bytes, rest) else None
+
+-- set = name | text: the name of a character set or of a collation
+unfoldable pub set_name_at : Lexemes → ReadOf (List ℕ)
+set_name_at (bare k bytes ∷ rest) = short_name bytes rest
+set_name_at (named bytes ∷ rest) = short_name bytes rest
+set_name_at (quoted bytes ∷ rest) = Some (bytes, rest)
+set_name_at _ = None
 
 unfoldable pub equals_at : Lexemes → Option Lexemes
 equals_at (mark Equal ∷ rest) = Some rest
@@ -129,10 +141,15 @@ unfoldable pub its_value_at : Variable → Lexemes → Option Lexemes
 its_value_at v ts =
     said_at ts >>= λ x. if same_in_any_case x.0 (variable_value v true) || same_in_any_case x.0 (shown_variable v true) then Some x.1 else None
 
+-- a character set that holds
+unfoldable pub held_set_at : Lexemes → Option Lexemes
+held_set_at ts = set_name_at ts >>= λ x. if is_held_set x.0 then Some x.1 else None
+
 -- The value of a setting that holds, and what autocommit is set to. The server can't be set to any other value.
 unfoldable pub setting_value_at : Rule → Lexemes → ReadOf (Option Bool)
 setting_value_at Switch ts = switch_at ts
 setting_value_at Modes ts = modes_at ts >>= λ rest. Some (None, rest)
+setting_value_at CharacterSet ts = held_set_at ts >>= λ rest. Some (None, rest)
 setting_value_at AnyValue ts = any_at ts >>= λ rest. Some (None, rest)
 setting_value_at (ItsValue v) ts = its_value_at v ts >>= λ rest. Some (None, rest)
 
@@ -166,14 +183,21 @@ settings_at (suc n) before ts = elim (setting_at ts) [
   ]
 ]
 
--- [COLLATE set]
-unfoldable pub collation_at : Lexemes → Option Lexemes
-collation_at (bare (Some k.Collate) w ∷ rest) = any_at rest
-collation_at ts = Some ts
+-- [COLLATE set], and whether it holds
+unfoldable pub collation_at : Lexemes → ReadOf Bool
+collation_at (bare (Some k.Collate) w ∷ rest) = set_name_at rest >>= λ x. Some (is_held_set x.0, x.1)
+collation_at ts = Some (true, ts)
 
--- set [COLLATE set], after NAMES
-unfoldable pub names_at : Lexemes → Option Lexemes
-names_at ts = any_at ts >>= collation_at
+abbrev pub names_statement : Bool → ClientStatement
+names_statement true = Set None
+names_statement false = NotSupported
+
+-- set [COLLATE set], after SET NAMES: a set or a collation that doesn't hold can't be set
+unfoldable pub names_at : Lexemes → ReadOf ClientStatement
+names_at ts = do
+  set ← set_name_at ts
+  collation ← collation_at set.1
+  Some (names_statement (is_held_set set.0 && collation.0), collation.1)
 
 -- READ UNCOMMITTED | READ COMMITTED | REPEATABLE READ: a transaction is on one shard and at one moment, which is more than each. SERIALIZABLE isn't
 -- among them, since a query of several shards outside a transaction is at a moment of each.
@@ -196,7 +220,7 @@ end_at on _ = None
 
 -- SET set, after CHARACTER
 unfoldable pub character_set_at : Lexemes → Option Lexemes
-character_set_at (bare (Some k.Set) w ∷ rest) = any_at rest
+character_set_at (bare (Some k.Set) w ∷ rest) = held_set_at rest
 character_set_at _ = None
 
 -- TRANSACTION characteristic, after SESSION; or else settings, of which that is the first one's scope
@@ -204,10 +228,9 @@ unfoldable pub session_at : Lexemes → Lexemes → Option (Option Bool)
 session_at ts (bare (Some k.Transaction) w ∷ rest) = characteristic_at rest >>= end_at None
 session_at ts _ = settings_at (length ts) None ts
 
--- what SET sets autocommit to, if all that it sets holds; after its word
+-- what SET sets autocommit to, if all that it sets holds; after its word, and not NAMES
 unfoldable pub set_at : Lexemes → Option (Option Bool)
-set_at (bare (Some k.Names) w ∷ rest) = names_at rest >>= end_at None
-set_at (bare (Some k.Charset) w ∷ rest) = any_at rest >>= end_at None
+set_at (bare (Some k.Charset) w ∷ rest) = held_set_at rest >>= end_at None
 set_at (bare (Some k.Character) w ∷ rest) = character_set_at rest >>= end_at None
 set_at (bare (Some k.Transaction) w ∷ rest) = characteristic_at rest >>= end_at None
 set_at (bare (Some k.Session) w ∷ rest) = session_at (bare (Some k.Session) w ∷ rest) rest
@@ -412,6 +435,7 @@ selected (Some items) = Some (Select items)
 
 unfoldable pub statement_at : List ℕ → List Token → Lexemes → Option ClientStatement
 statement_at whole tokens (bare (Some k.Select) w ∷ rest) = selected (items_at (length (drop 1 tokens)) whole [] (drop 1 tokens))
+statement_at whole tokens (bare (Some k.Set) w ∷ bare (Some k.Names) v ∷ rest) = finished (names_at rest)
 statement_at whole tokens (bare (Some k.Set) w ∷ rest) = Some (set_statement (set_at rest))
 statement_at whole tokens (bare (Some k.Show) w ∷ rest) = finished (show_at rest)
 statement_at whole tokens (bare (Some k.Use) w ∷ rest) = finished (use_at rest)

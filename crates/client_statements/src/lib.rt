@@ -11,6 +11,7 @@ mod names;
 mod reading;
 mod rule;
 mod selects;
+mod sets;
 mod settings;
 mod shows;
 mod statement;

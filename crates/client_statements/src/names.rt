@@ -1,14 +1,17 @@
 //! Names, texts, signs and switches at the front of tokens.
-ghost use Rattle.std.specs.Prelude.{◌≡◌, ℕ, List};
+ghost use Rattle.std.specs.Prelude.{◌≡◌, ℕ, List, slice_range};
 ghost use Rattle.sql_lexer.specs.inner.Results.{AgreesWith};
-ghost use Rattle.client_statements.specs.tokens.Pieces.{lexemes_of};
-ghost use Rattle.client_statements.specs.Grammar.{identifier_at, string_at, any_at, switch_at, like_at, equals_at, comma_at, open_at, close_at};
+ghost use Rattle.client_statements.specs.tokens.Pieces.{lexemes_of, said_by};
+ghost use Rattle.client_statements.specs.Grammar.{identifier_at, string_at, any_at, short_name, set_name_at, like_at, equals_at, comma_at, open_at, close_at};
 
 use crate::kinds::{CLOSE, COMMA, EQUAL, LIKE, OFF, ON, OPEN};
 use crate::tokens::{Token, TokenKind, said};
 use sql_tree::Name;
 use std::alloc::Global;
 use vt_value::Refusal;
+
+/// How many bytes a name has at most.
+const MAX_WORD: usize = 64;
 
 /// A word or a name between backquotes.
 #[tactic(auto, unfolding(crate::specs::Grammar::identifier_at))]
@@ -55,6 +58,43 @@ pub fn any(tokens: &[Token]) -> Result<&[Token], Refusal>
         [first, rest @ ..] => match first.kind {
             TokenKind::Word(_) | TokenKind::Name | TokenKind::Number | TokenKind::Text => Ok(rest),
             TokenKind::Variable | TokenKind::Sign(_) => Err(Refusal::SyntaxError),
+        },
+        [] => Err(Refusal::SyntaxError),
+    }
+}
+
+/// A name that isn't longer than SQL has it.
+fn short_name<'s>(
+    alloc: Global,
+    text: &[u8],
+    first: &Token,
+    rest: &'s [Token],
+) -> Result<(Name, &'s [Token]), Refusal>
+    ensures { AgreesWith (λ x. (x.0, lexemes_of text.now x.1.now)) result
+        (short_name (said_by first.now.kind (slice_range text.now first.now.start first.now.end)) (lexemes_of text.now rest.now)) }
+{
+    let name = said(alloc, text, first)?;
+    if name.len() <= MAX_WORD {
+        Ok((name, rest))
+    } else {
+        Err(Refusal::SyntaxError)
+    }
+}
+
+/// The name of a character set or of a collation: a name, or a text.
+#[tactic(auto, unfolding(crate::specs::Grammar::set_name_at))]
+pub fn set_name<'s>(
+    alloc: Global,
+    text: &[u8],
+    tokens: &'s [Token],
+) -> Result<(Name, &'s [Token]), Refusal>
+    ensures { AgreesWith (λ x. (x.0, lexemes_of text.now x.1.now)) result (set_name_at (lexemes_of text.now tokens.now)) }
+{
+    match tokens {
+        [first, rest @ ..] => match first.kind {
+            TokenKind::Word(_) | TokenKind::Name => short_name(alloc, text, first, rest),
+            TokenKind::Text => Ok((said(alloc, text, first)?, rest)),
+            _ => Err(Refusal::SyntaxError),
         },
         [] => Err(Refusal::SyntaxError),
     }

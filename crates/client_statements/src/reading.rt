@@ -7,9 +7,9 @@ ghost use Rattle.client_statements.specs.declared.statement.ClientStatement.{Cli
 ghost use Rattle.client_statements.specs.Asks.{Asks};
 ghost use Rattle.client_statements.specs.Grammar.{finished, statement_at, without_semicolon, client_statement};
 
-use crate::kinds::{DESC, DESCRIBE, SELECT, SEMICOLON, SET, SHOW, START, TRANSACTION, USE};
+use crate::kinds::{DESC, DESCRIBE, NAMES, SELECT, SEMICOLON, SET, SHOW, START, TRANSACTION, USE};
 use crate::selects::items;
-use crate::settings::set_statement;
+use crate::settings::{names, set_statement};
 use crate::shows::{begin, describe, show, use_keyspace};
 use crate::statement::ClientStatement;
 use crate::tokens::{Token, lex};
@@ -36,6 +36,11 @@ fn statement(alloc: Global, text: &[u8], tokens: &[Token]) -> Result<ClientState
         [Token { kind: SELECT, .. }, rest @ ..] => {
             return Ok(ClientStatement::Select(items(alloc, text, rest)?));
         }
+        [
+            Token { kind: SET, .. },
+            Token { kind: NAMES, .. },
+            rest @ ..,
+        ] => names(alloc, text, rest)?,
         [Token { kind: SET, .. }, rest @ ..] => return set_statement(alloc, text, rest),
         [Token { kind: SHOW, .. }, rest @ ..] => show(alloc, text, rest)?,
         [Token { kind: USE, .. }, rest @ ..] => use_keyspace(alloc, text, rest)?,

@@ -3,7 +3,7 @@ ghost use Rattle.std.specs.Prelude.{◌≡◌, ◌+◌, ◌<◌, ◌≤◌, ◌=
 ghost use Rattle.sql_lexer.specs.inner.Scanning.{run};
 ghost use Rattle.std.specs.List.{list_any};
 ghost use Rattle.client_statements.specs.tokens.Keywords.{same_in_any_case};
-ghost use Rattle.client_statements.specs.Settings.{free_settings, held_modes, is_held_mode, are_held_modes, rule_of};
+ghost use Rattle.client_statements.specs.Settings.{free_settings, set_settings, held_modes, is_held_mode, are_held_modes, rule_of};
 
 use crate::tokens::same_in_any_case;
 use crate::variable::{Variable, variable_of};
@@ -15,15 +15,17 @@ pub enum Rule {
     Switch,
     /// Of `sql_mode`: modes whose rule holds.
     Modes,
+    /// Of a character set or a collation: those by which texts are read rightly.
+    CharacterSet,
     /// Any.
     AnyValue,
     /// The value of the variable.
     ItsValue(Variable),
 }
 
-/// Whether any value of a setting holds.
-fn is_free(name: &[u8]) -> bool
-    ensures { result ≡ list_any (same_in_any_case name.now) free_settings }
+/// Whether a setting is one of a character set or of a collation.
+fn is_of_set(name: &[u8]) -> bool
+    ensures { result ≡ list_any (same_in_any_case name.now) set_settings }
 {
     same_in_any_case(name, b"character_set_client")
         || same_in_any_case(name, b"character_set_connection")
@@ -31,7 +33,13 @@ fn is_free(name: &[u8]) -> bool
         || same_in_any_case(name, b"character_set_server")
         || same_in_any_case(name, b"collation_connection")
         || same_in_any_case(name, b"collation_server")
-        || same_in_any_case(name, b"session_track_gtids")
+}
+
+/// Whether any value of a setting holds.
+fn is_free(name: &[u8]) -> bool
+    ensures { result ≡ list_any (same_in_any_case name.now) free_settings }
+{
+    same_in_any_case(name, b"session_track_gtids")
         || same_in_any_case(name, b"session_track_schema")
         || same_in_any_case(name, b"session_track_state_change")
         || same_in_any_case(name, b"session_track_system_variables")
@@ -110,6 +118,8 @@ pub fn rule_of(name: &[u8]) -> Option<Rule>
         Some(Rule::Switch)
     } else if same_in_any_case(name, b"sql_mode") {
         Some(Rule::Modes)
+    } else if is_of_set(name) {
+        Some(Rule::CharacterSet)
     } else if is_free(name) {
         Some(Rule::AnyValue)
     } else {

@@ -3,15 +3,16 @@ ghost use Rattle.std.specs.Prelude.{◌≡◌, ℕ, List, length, Some, None};
 ghost use Rattle.sql_lexer.specs.inner.Results.{AgreesWith};
 ghost use Rattle.client_statements.specs.tokens.Pieces.{lexeme_of, lexemes_of};
 ghost use Rattle.client_statements.specs.Grammar.{switch_of, switch_at, modes_text_at, is_session, system_at, scoped_at, mode_variable_at, added_at};
-ghost use Rattle.client_statements.specs.Grammar.{inner_concat_at, modes_at, said_at, its_value_at, setting_value_at, target_at, setting_at, settings_at};
-ghost use Rattle.client_statements.specs.Grammar.{collation_at, names_at, level_at, characteristic_at, end_at, character_set_at, session_at, set_at, set_statement};
+ghost use Rattle.client_statements.specs.Grammar.{inner_concat_at, modes_at, said_at, its_value_at, held_set_at, setting_value_at, target_at, setting_at, settings_at};
+ghost use Rattle.client_statements.specs.Grammar.{collation_at, names_statement, names_at, level_at, characteristic_at, end_at, character_set_at, session_at, set_at, set_statement};
 
 use crate::kinds::{
-    CHARACTER, CHARSET, COLLATE, COMMITTED, CONCAT, DOT, ISOLATION, LEVEL, LOCAL, NAMES, OFF, ON,
-    ONLY, READ, REPEATABLE, SESSION, SET, TRANSACTION, UNCOMMITTED, WRITE,
+    CHARACTER, CHARSET, COLLATE, COMMITTED, CONCAT, DOT, ISOLATION, LEVEL, LOCAL, OFF, ON, ONLY,
+    READ, REPEATABLE, SESSION, SET, TRANSACTION, UNCOMMITTED, WRITE,
 };
-use crate::names::{any, close, comma, equals, identifier, open, string};
+use crate::names::{any, close, comma, equals, identifier, open, set_name, string};
 use crate::rule::{Rule, are_held_modes, rule_of};
+use crate::sets::is_held_set;
 use crate::statement::ClientStatement;
 use crate::tokens::{Token, TokenKind, said, same_in_any_case};
 use crate::variable::{Variable, shown_variable, variable_value};
@@ -211,6 +212,19 @@ fn its_value<'s>(
     }
 }
 
+/// A character set that holds.
+#[tactic(auto, unfolding(crate::specs::Grammar::held_set_at))]
+fn held_set<'s>(alloc: Global, text: &[u8], tokens: &'s [Token]) -> Result<&'s [Token], Refusal>
+    ensures { AgreesWith (λ x. lexemes_of text.now x.now) result (held_set_at (lexemes_of text.now tokens.now)) }
+{
+    let (name, rest) = set_name(alloc, text, tokens)?;
+    if is_held_set(name.as_slice()) {
+        Ok(rest)
+    } else {
+        Err(Refusal::SyntaxError)
+    }
+}
+
 /// A value that holds.
 #[tactic(auto, unfolding(crate::specs::Grammar::setting_value_at))]
 fn value<'s>(
@@ -225,6 +239,10 @@ fn value<'s>(
         Rule::Switch => switch(alloc, text, tokens),
         Rule::Modes => {
             let rest = modes(alloc, text, tokens)?;
+            Ok((None, rest))
+        }
+        Rule::CharacterSet => {
+            let rest = held_set(alloc, text, tokens)?;
             Ok((None, rest))
         }
         Rule::AnyValue => {
@@ -301,24 +319,48 @@ fn settings(alloc: Global, text: &[u8], tokens: &[Token]) -> Result<Option<bool>
     Err(Refusal::SyntaxError)
 }
 
-/// [COLLATE set]
+/// [COLLATE set], and whether it holds.
 #[tactic(auto, unfolding(crate::specs::Grammar::collation_at))]
-fn collation(tokens: &[Token]) -> Result<&[Token], Refusal>
-    ensures { (text : List ℕ) → AgreesWith (λ x. lexemes_of text x.now) result (collation_at (lexemes_of text tokens.now)) }
+fn collation<'s>(
+    alloc: Global,
+    text: &[u8],
+    tokens: &'s [Token],
+) -> Result<(bool, &'s [Token]), Refusal>
+    ensures { AgreesWith (λ x. (x.0, lexemes_of text.now x.1.now)) result (collation_at (lexemes_of text.now tokens.now)) }
 {
     match tokens {
-        [Token { kind: COLLATE, .. }, rest @ ..] => any(rest),
-        _ => Ok(tokens),
+        [Token { kind: COLLATE, .. }, rest @ ..] => {
+            let (name, rest) = set_name(alloc, text, rest)?;
+            Ok((is_held_set(name.as_slice()), rest))
+        }
+        _ => Ok((true, tokens)),
     }
 }
 
-/// set [COLLATE set]
-#[tactic(auto, unfolding(crate::specs::Grammar::names_at))]
-fn names(tokens: &[Token]) -> Result<&[Token], Refusal>
-    ensures { (text : List ℕ) → AgreesWith (λ x. lexemes_of text x.now) result (names_at (lexemes_of text tokens.now)) }
+/// What SET NAMES of sets that hold asks, or of one that doesn't.
+fn names_statement(holds: bool) -> ClientStatement
+    ensures { result ≡ names_statement holds }
 {
-    let rest = any(tokens)?;
-    collation(rest)
+    if holds {
+        ClientStatement::Set { autocommit: None }
+    } else {
+        ClientStatement::NotSupported
+    }
+}
+
+/// set [COLLATE set], after SET NAMES.
+#[tactic(auto, unfolding(crate::specs::Grammar::names_at))]
+pub fn names<'s>(
+    alloc: Global,
+    text: &[u8],
+    tokens: &'s [Token],
+) -> Result<(ClientStatement, &'s [Token]), Refusal>
+    ensures { AgreesWith (λ x. (x.0, lexemes_of text.now x.1.now)) result (names_at (lexemes_of text.now tokens.now)) }
+{
+    let (set, rest) = set_name(alloc, text, tokens)?;
+    let (holds, rest) = collation(alloc, text, rest)?;
+    let holds = is_held_set(set.as_slice()) && holds;
+    Ok((names_statement(holds), rest))
 }
 
 /// A level of isolation that is kept.
@@ -383,11 +425,15 @@ fn end(tokens: &[Token]) -> Result<Option<bool>, Refusal>
 
 /// SET set, after CHARACTER.
 #[tactic(auto, unfolding(crate::specs::Grammar::character_set_at))]
-fn character_set(tokens: &[Token]) -> Result<&[Token], Refusal>
-    ensures { (text : List ℕ) → AgreesWith (λ x. lexemes_of text x.now) result (character_set_at (lexemes_of text tokens.now)) }
+fn character_set<'s>(
+    alloc: Global,
+    text: &[u8],
+    tokens: &'s [Token],
+) -> Result<&'s [Token], Refusal>
+    ensures { AgreesWith (λ x. lexemes_of text.now x.now) result (character_set_at (lexemes_of text.now tokens.now)) }
 {
     match tokens {
-        [Token { kind: SET, .. }, rest @ ..] => any(rest),
+        [Token { kind: SET, .. }, rest @ ..] => held_set(alloc, text, rest),
         _ => Err(Refusal::SyntaxError),
     }
 }
@@ -414,21 +460,20 @@ fn session(
     }
 }
 
-/// What SET sets autocommit to, if all that it sets holds; after its word.
+/// What SET sets autocommit to, if all that it sets holds; after its word, and not NAMES.
 #[tactic(auto, unfolding(crate::specs::Grammar::set_at))]
 fn set(alloc: Global, text: &[u8], tokens: &[Token]) -> Result<Option<bool>, Refusal>
     ensures { AgreesWith (λ x. x) result (set_at (lexemes_of text.now tokens.now)) }
 {
     match tokens {
-        [Token { kind: NAMES, .. }, rest @ ..] => end(names(rest)?),
-        [Token { kind: CHARSET, .. }, rest @ ..] => end(any(rest)?),
+        [Token { kind: CHARSET, .. }, rest @ ..] => end(held_set(alloc, text, rest)?),
         [
             Token {
                 kind: CHARACTER,
                 ..
             },
             rest @ ..,
-        ] => end(character_set(rest)?),
+        ] => end(character_set(alloc, text, rest)?),
         [
             Token {
                 kind: TRANSACTION,
