@@ -4,3 +4,4 @@ pub mod Lists
 pub mod Modes
 pub mod Patterns
 pub mod Rows
+pub mod SetFront

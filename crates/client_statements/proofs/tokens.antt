@@ -1,4 +1,5 @@
 pub mod Fronts
+pub mod FrontsAgain
 pub mod Lexes
 pub mod Loop
 pub mod Remarks

@@ -8,7 +8,7 @@ use Rattle.client_statements.specs.declared.tokens.token.TokenKind.{TokenKind}
 use Rattle.client_statements.specs.declared.tokens.token.TokenKind.TheVariants.{Sign}
 use Rattle.client_statements.specs.declared.tokens.token.Keyword.{Keyword}
 use Rattle.client_statements.specs.declared.tokens.token.Keyword.TheVariants as k
-use Rattle.client_statements.specs.declared.tokens.token.Sign.TheVariants.{Equal, Comma, Dot, LeftParenthesis, RightParenthesis, Semicolon}
+use Rattle.client_statements.specs.declared.tokens.token.Sign.TheVariants.{Equal, Assign, Comma, Dot, LeftParenthesis, RightParenthesis, Semicolon}
 use Rattle.client_statements.specs.tokens.Keywords.{same_in_any_case}
 use Rattle.client_statements.specs.tokens.Pieces.{Lexeme, bare, named, system, digits, quoted, mark, lexemes_of}
 use Rattle.client_statements.specs.declared.rule.Rule.{Rule}
@@ -61,8 +61,10 @@ set_name_at (named bytes ∷ rest) = short_name bytes rest
 set_name_at (quoted bytes ∷ rest) = Some (bytes, rest)
 set_name_at _ = None
 
+-- = or :=
 unfoldable pub equals_at : Lexemes → Option Lexemes
 equals_at (mark Equal ∷ rest) = Some rest
+equals_at (mark Assign ∷ rest) = Some rest
 equals_at _ = None
 
 unfoldable pub comma_at : Lexemes → Option Lexemes

@@ -101,6 +101,8 @@ pub const WITH: TokenKind = TokenKind::Word(Some(Keyword::With));
 
 pub const WRITE: TokenKind = TokenKind::Word(Some(Keyword::Write));
 
+pub const ASSIGN: TokenKind = TokenKind::Sign(Sign::Assign);
+
 pub const EQUAL: TokenKind = TokenKind::Sign(Sign::Equal);
 
 pub const COMMA: TokenKind = TokenKind::Sign(Sign::Comma);

@@ -22,6 +22,6 @@ mod variables;
 pub use answers::{ClientAnswer, Facts, answer};
 pub use keyspaces::{keyspace_name, keyspace_ordinal};
 pub use likes::is_like;
-pub use reading::read;
+pub use reading::{may_set, read};
 pub use statement::{ClientStatement, NamedValue, SelectItem, TableName};
 pub use variable::Variable;

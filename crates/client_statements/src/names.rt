@@ -4,7 +4,7 @@ ghost use Rattle.sql_lexer.specs.inner.Results.{AgreesWith};
 ghost use Rattle.client_statements.specs.tokens.Pieces.{lexemes_of, said_by};
 ghost use Rattle.client_statements.specs.Grammar.{identifier_at, string_at, any_at, short_name, set_name_at, like_at, equals_at, comma_at, open_at, close_at};
 
-use crate::kinds::{CLOSE, COMMA, EQUAL, LIKE, OFF, ON, OPEN};
+use crate::kinds::{ASSIGN, CLOSE, COMMA, EQUAL, LIKE, OFF, ON, OPEN};
 use crate::tokens::{Token, TokenKind, said};
 use sql_tree::Name;
 use std::alloc::Global;
@@ -57,7 +57,9 @@ pub fn any(tokens: &[Token]) -> Result<&[Token], Refusal>
     match tokens {
         [first, rest @ ..] => match first.kind {
             TokenKind::Word(_) | TokenKind::Name | TokenKind::Number | TokenKind::Text => Ok(rest),
-            TokenKind::Variable | TokenKind::Sign(_) => Err(Refusal::SyntaxError),
+            TokenKind::Variable | TokenKind::Operator | TokenKind::Sign(_) => {
+                Err(Refusal::SyntaxError)
+            }
         },
         [] => Err(Refusal::SyntaxError),
     }
@@ -100,13 +102,19 @@ pub fn set_name<'s>(
     }
 }
 
-/// What comes after a sign `=`.
+/// What comes after a sign `=` or `:=`.
 #[tactic(auto, unfolding(crate::specs::Grammar::equals_at))]
 pub fn equals(tokens: &[Token]) -> Result<&[Token], Refusal>
     ensures { (text : List ℕ) → AgreesWith (λ x. lexemes_of text x.now) result (equals_at (lexemes_of text tokens.now)) }
 {
     match tokens {
-        [Token { kind: EQUAL, .. }, rest @ ..] => Ok(rest),
+        [
+            Token {
+                kind: EQUAL | ASSIGN,
+                ..
+            },
+            rest @ ..,
+        ] => Ok(rest),
         _ => Err(Refusal::SyntaxError),
     }
 }

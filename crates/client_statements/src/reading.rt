@@ -1,10 +1,11 @@
 //! What a text asks of a server.
-ghost use Rattle.std.specs.Prelude.{◌≡◌, ℕ, List, Some, IfOk, IfSome, length};
+ghost use Rattle.std.specs.Prelude.{◌≡◌, ℕ, List, false, Some, IfOk, IfSome, length};
 ghost use Rattle.sql_lexer.specs.inner.Results.{AgreesWith};
 ghost use Rattle.client_statements.specs.declared.tokens.token.Token.{Token};
 ghost use Rattle.client_statements.specs.tokens.Pieces.{lexemes_of};
 ghost use Rattle.client_statements.specs.declared.statement.ClientStatement.{ClientStatement};
-ghost use Rattle.client_statements.specs.Asks.{Asks};
+ghost use Rattle.client_statements.specs.Asks.{Asks, IsSet};
+ghost use Rattle.client_statements.specs.inner.Fronts.{is_no_set};
 ghost use Rattle.client_statements.specs.Grammar.{finished, statement_at, without_semicolon, client_statement};
 
 use crate::kinds::{DESC, DESCRIBE, NAMES, SELECT, SEMICOLON, SET, SHOW, START, TRANSACTION, USE};
@@ -12,7 +13,7 @@ use crate::selects::items;
 use crate::settings::{names, set_statement};
 use crate::shows::{begin, describe, show, use_keyspace};
 use crate::statement::ClientStatement;
-use crate::tokens::{Token, lex};
+use crate::tokens::{Token, is_letter, lex};
 use std::alloc::{AllocError, Global};
 use vt_value::Refusal;
 
@@ -108,5 +109,23 @@ pub fn read(alloc: Global, text: &[u8]) -> Result<Option<ClientStatement>, Alloc
         Ok(statement) => Ok(Some(statement)),
         Err(Refusal::OutOfMemory) => Err(AllocError),
         Err(_) => Ok(None),
+    }
+}
+
+/// Whether no text begins with SET that has these as its first and third byte.
+fn is_no_set(first: u8, third: u8) -> bool
+    ensures { result ≡ is_no_set first third }
+{
+    is_letter(first) && third != b't' && third != b'T'
+}
+
+/// Whether a text may begin with SET, by its first and third byte. A session reads such a text before it is run.
+pub fn may_set(text: &[u8]) -> bool
+    // If it may not, the text doesn't begin with SET.
+    ensures { result ≡ false → IsSet text.now → ⊥ }
+{
+    match text {
+        [first, _, third, ..] => !is_no_set(*first, *third),
+        _ => true,
     }
 }

@@ -8,6 +8,7 @@ mod lexing;
 mod saying;
 mod token;
 
+pub(crate) use byte::is_letter;
 pub use keyword::same_in_any_case;
 pub use lexing::{lex, one_lexing};
 pub use saying::{bytes_of, said};

@@ -8,7 +8,8 @@ use Rattle.client_statements.specs.declared.tokens.token.Token.{Token}
 use Rattle.client_statements.specs.tokens.Tokens.{onto_tokens, HasTokensFrom}
 use Rattle.client_statements.specs.tokens.Tokens as t
 use Rattle.client_statements.specs.tokens.inner.Scanning.{Front, piece_at, tokens_at}
-use Rattle.client_statements.proofs.tokens.Fronts.{Found, piece_sound, piece_again, some_bytes, map_some}
+use Rattle.client_statements.proofs.tokens.Fronts.{Found, piece_sound, map_some}
+use Rattle.client_statements.proofs.tokens.FrontsAgain.{piece_again, some_bytes}
 
 pub past_front : (bs : List ℕ) (x : Front) (f : Found bs x) → drop x.1 bs ≡ f.rest
 past_front bs x f = rw (f.size) (subst (λ (cs : List ℕ). drop (length f.front) cs ≡ f.rest) (sym f.parts) (drop-append_seam f.front f.rest))

@@ -1,16 +1,16 @@
 -- The pieces of what a client says: tokens, blanks and comments, how each is spelled, and what a token says. After 'Language Structure'
 -- of MySQL's reference manual.
-use Rattle.std.specs.Prelude.{◌≡◌, ℕ, Bool, true, false, not, ◌&&◌, ◌||◌, ◌==◌, List, [], ◌∷◌, ◌++◌, drop, map, slice_range, codes, Option, Some, None, if◌then◌else◌}
+use Rattle.std.specs.Prelude.{◌≡◌, ℕ, Bool, true, false, not, ◌&&◌, ◌||◌, ◌==◌, List, [], ◌∷◌, ◌++◌, drop, map, slice_range, codes, bytes_eq, Option, Some, None, if◌then◌else◌}
 use Rattle.std.specs.List.{list_all}
 use Rattle.sql_lexer.specs.Lexemes.{is_blank, is_letter, is_digit, is_word_byte, escaped, inner}
 use Rattle.sql_lexer.specs.inner.Scanning.{first_passes}
 use Rattle.client_statements.specs.tokens.Keywords.{keyword_of}
 use Rattle.client_statements.specs.declared.tokens.token.Keyword.{Keyword}
 use Rattle.client_statements.specs.declared.tokens.token.Sign as S
-use Rattle.client_statements.specs.declared.tokens.token.Sign.TheVariants.{Equal, Comma, Dot, LeftParenthesis, RightParenthesis, Semicolon}
+use Rattle.client_statements.specs.declared.tokens.token.Sign.TheVariants.{Equal, Assign, Comma, Dot, LeftParenthesis, RightParenthesis, Semicolon, Star, Minus}
 use Rattle.client_statements.specs.declared.tokens.token.Token.{Token}
 use Rattle.client_statements.specs.declared.tokens.token.TokenKind.{TokenKind}
-use Rattle.client_statements.specs.declared.tokens.token.TokenKind.TheVariants.{Word, Name, Variable, Number, Text, Sign}
+use Rattle.client_statements.specs.declared.tokens.token.TokenKind.TheVariants.{Word, Name, Variable, Number, Text, Operator, Sign}
 
 abbrev pub in_line : ℕ → Bool
 in_line b = not (b == 0x0A)
@@ -21,6 +21,10 @@ in_name b = not (b == 0x60)
 -- `'` or `"`
 abbrev pub is_quote : ℕ → Bool
 is_quote b = (b == 0x27) || (b == 0x22)
+
+-- `<`, `=`, `>`, `!`, `&` or `|`
+abbrev pub is_operator_byte : ℕ → Bool
+is_operator_byte b = (b == 0x3C) || (b == 0x3D) || (b == 0x3E) || (b == 0x21) || (b == 0x26) || (b == 0x7C)
 
 -- Between the quotes of a text stand bytes other than its quote and a backslash, pairs of its quote, and backslashes each with the byte
 -- that it escapes.
@@ -37,11 +41,29 @@ has_close (b ∷ bytes) = (b == 0x2A) && first_passes (λ c. c == 0x2F) bytes ||
 
 abbrev pub sign_text : S.Sign → List ℕ
 sign_text Equal = codes "="
+sign_text Assign = codes ":="
 sign_text Comma = codes ","
 sign_text Dot = codes "."
 sign_text LeftParenthesis = codes "("
 sign_text RightParenthesis = codes ")"
 sign_text Semicolon = codes ";"
+sign_text Star = codes "*"
+sign_text Minus = codes "-"
+
+-- after a `-` these bytes make it a comment
+abbrev pub begins_dashes : List ℕ → Bool
+begins_dashes [] = false
+begins_dashes (b ∷ bytes) = (b == 0x2D) && not (first_passes (λ c. not (is_blank c)) bytes)
+
+-- these bytes may follow a sign; `=` is read as operators are
+abbrev pub may_follow : S.Sign → List ℕ → Bool
+may_follow Equal rest = false
+may_follow Minus rest = not (begins_dashes rest)
+may_follow _ rest = true
+
+-- what operator bytes are
+abbrev pub operator_kind : List ℕ → TokenKind
+operator_kind bytes = if bytes_eq bytes (codes "=") then Sign Equal else Operator
 
 -- The first bytes are a piece, if the second ones follow it: a token of the kind, or none of a blank and of a comment. A comment is `#`
 -- or `-- ` up to the end of the line, or stands between `/*` and the next `*/`; one that begins with `!` is none. A token is as long as
@@ -63,8 +85,9 @@ pub data IsPiece : List ℕ → List ℕ → Option TokenKind → Type 0 where
       → IsPiece (b ∷ bytes) rest (Some Number)
   text : {quote : ℕ} {bytes rest : List ℕ} → is_quote quote ≡ true → IsQuoted quote bytes → first_passes (λ b. b == quote) rest ≡ false
       → IsPiece (quote ∷ bytes ++ quote ∷ []) rest (Some Text)
-  sign : {rest : List ℕ} (s : S.Sign) → IsPiece (sign_text s) rest (Some (Sign s))
-  assigns : {rest : List ℕ} → IsPiece (codes ":=") rest (Some (Sign Equal))
+  operator : {b : ℕ} {bytes rest : List ℕ} → is_operator_byte b ≡ true → list_all is_operator_byte bytes ≡ true
+      → first_passes is_operator_byte rest ≡ false → IsPiece (b ∷ bytes) rest (Some (operator_kind (b ∷ bytes)))
+  sign : {rest : List ℕ} (s : S.Sign) → may_follow s rest ≡ true → IsPiece (sign_text s) rest (Some (Sign s))
 
 -- what comes between the quotes: a pair of quotes says one
 abbrev pub unquoted : ℕ → List ℕ → List ℕ
@@ -86,6 +109,7 @@ said_by Name bytes = inner bytes
 said_by Variable bytes = drop 2 bytes
 said_by Number bytes = bytes
 said_by Text bytes = unquoted_text bytes
+said_by Operator bytes = bytes
 said_by (Sign s) bytes = []
 
 -- what the grammar sees of a token: its kind, and what it says
@@ -95,6 +119,7 @@ pub data Lexeme : Type 0 where
   system : List ℕ → Lexeme
   digits : List ℕ → Lexeme
   quoted : List ℕ → Lexeme
+  operator : List ℕ → Lexeme
   mark : S.Sign → Lexeme
 
 abbrev pub lexeme_by : TokenKind → List ℕ → Lexeme
@@ -103,6 +128,7 @@ lexeme_by Name bytes = named bytes
 lexeme_by Variable bytes = system bytes
 lexeme_by Number bytes = digits bytes
 lexeme_by Text bytes = quoted bytes
+lexeme_by Operator bytes = operator bytes
 lexeme_by (Sign s) bytes = mark s
 
 abbrev pub lexeme_of : List ℕ → Token → Lexeme

@@ -5,6 +5,7 @@ ghost use Rattle.client_statements.specs.tokens.inner.Scanning.{remark_len, dash
 
 use crate::tokens::byte::{begins_no_blank, begins_with, line_len, rest_from};
 use crate::tokens::lexing::Front;
+use crate::tokens::token::{Sign, TokenKind};
 
 /// Whether a byte and those after it begin with `*/`.
 fn closes(byte: u8, after: &[u8]) -> bool
@@ -27,14 +28,14 @@ fn remark_len(bytes: &[u8]) -> Option<usize>
     None
 }
 
-/// A comment up to the end of its line, after the first of its two dashes.
+/// A comment up to the end of its line, after the first of its two dashes; or that dash alone.
 #[tactic(auto, unfolding(crate::specs::tokens::inner::Scanning::dashes_at))]
 pub fn dashes(after: &[u8]) -> Option<Front>
     ensures { result ≡ dashes_at after.now }
 {
     match after {
         [b'-', line @ ..] if !begins_no_blank(line) => Some((None, line_len(line) + 2)),
-        _ => None,
+        _ => Some((Some(TokenKind::Sign(Sign::Minus)), 1)),
     }
 }
 

@@ -2,7 +2,7 @@
 ghost use Rattle.std.specs.Prelude.{◌≡◌, ◌≤◌, ◌==◌, not, length, drop};
 ghost use Rattle.sql_lexer.specs.Lexemes.{is_blank, is_letter, is_digit, is_word_byte};
 ghost use Rattle.sql_lexer.specs.inner.Scanning.{run, first_passes};
-ghost use Rattle.client_statements.specs.tokens.Pieces.{in_line, in_name, is_quote};
+ghost use Rattle.client_statements.specs.tokens.Pieces.{in_line, in_name, is_quote, is_operator_byte};
 
 /// A blank, tab, line feed, vertical tab, form feed or carriage return.
 pub fn is_blank(byte: u8) -> bool
@@ -79,6 +79,13 @@ pub fn begins_no_blank(bytes: &[u8]) -> bool
     }
 }
 
+/// `<`, `=`, `>`, `!`, `&` or `|`.
+pub fn is_operator_byte(byte: u8) -> bool
+    ensures { result ≡ is_operator_byte byte }
+{
+    byte == b'<' || byte == b'=' || byte == b'>' || byte == b'!' || byte == b'&' || byte == b'|'
+}
+
 /// How many bytes of a word are at the front.
 pub fn word_len(bytes: &[u8]) -> usize
     ensures value { result ≡ run is_word_byte bytes.now }
@@ -102,6 +109,21 @@ pub fn number_len(bytes: &[u8]) -> usize
     let mut count = 0;
     for byte in bytes {
         if !is_digit(*byte) {
+            return count;
+        }
+        count += 1;
+    }
+    count
+}
+
+/// How many operator bytes are at the front.
+pub fn operator_len(bytes: &[u8]) -> usize
+    ensures value { result ≡ run is_operator_byte bytes.now }
+    ensures within { result ≤ length bytes.now }
+{
+    let mut count = 0;
+    for byte in bytes {
+        if !is_operator_byte(*byte) {
             return count;
         }
         count += 1;

@@ -3,13 +3,14 @@ ghost use Rattle.std.specs.Prelude.{◌≡◌, ◌++◌, [], ℕ, List, OnOk, If
 ghost use Rattle.client_statements.specs.declared.tokens.token.Token.{Token};
 ghost use Rattle.client_statements.specs.tokens.Tokens.{HasTokens, onto_tokens};
 ghost use Rattle.client_statements.specs.tokens.inner.Scanning.{number_at, text_at, is_name_before, name_at, variable_at, assigns_at, sign_at, mark_at};
-ghost use Rattle.client_statements.specs.tokens.inner.Scanning.{word_at, piece_at, tokens_at};
+ghost use Rattle.client_statements.specs.tokens.inner.Scanning.{word_at, operator_at, piece_at, tokens_at};
+ghost use Rattle.client_statements.specs.tokens.Pieces.{operator_kind};
 
 use crate::tokens::blank::{dashes, remark};
 use crate::tokens::body::text_len;
 use crate::tokens::byte::{
-    begins_letter, begins_with, begins_word_byte, is_blank, is_digit, is_letter, is_quote,
-    line_len, name_len, number_len, rest_from, word_len,
+    begins_letter, begins_with, begins_word_byte, is_blank, is_digit, is_letter, is_operator_byte,
+    is_quote, line_len, name_len, number_len, operator_len, rest_from, word_len,
 };
 use crate::tokens::keyword::keyword_of;
 use crate::tokens::token::{Sign, Token, TokenKind};
@@ -85,7 +86,7 @@ fn assigns(after: &[u8]) -> Option<Front>
     ensures { result ≡ assigns_at after.now }
 {
     if begins_with(after, b'=') {
-        Some((Some(TokenKind::Sign(Sign::Equal)), 2))
+        Some((Some(TokenKind::Sign(Sign::Assign)), 2))
     } else {
         None
     }
@@ -95,7 +96,7 @@ fn sign(first: u8) -> Option<Sign>
     ensures { result ≡ sign_at first }
 {
     match first {
-        b'=' => Some(Sign::Equal),
+        b'*' => Some(Sign::Star),
         b',' => Some(Sign::Comma),
         b'.' => Some(Sign::Dot),
         b'(' => Some(Sign::LeftParenthesis),
@@ -134,6 +135,26 @@ fn word(rest: &[u8]) -> Option<Front>
     Some((Some(TokenKind::Word(keyword)), length))
 }
 
+/// What operator bytes are.
+fn operator_kind(bytes: &[u8]) -> TokenKind
+    ensures { result ≡ operator_kind bytes.now }
+{
+    match bytes {
+        b"=" => TokenKind::Sign(Sign::Equal),
+        _ => TokenKind::Operator,
+    }
+}
+
+/// An operator.
+#[tactic(auto, unfolding(crate::specs::tokens::inner::Scanning::operator_at))]
+fn operator(rest: &[u8]) -> Option<Front>
+    ensures { result ≡ operator_at rest.now }
+{
+    let length = operator_len(rest);
+    let kind = operator_kind(&rest[..length]);
+    Some((Some(kind), length))
+}
+
 /// What is at the front.
 #[tactic(auto, unfolding(crate::specs::tokens::inner::Scanning::piece_at))]
 fn piece(rest: &[u8]) -> Option<Front>
@@ -150,6 +171,8 @@ fn piece(rest: &[u8]) -> Option<Front>
         number(after)
     } else if is_quote(*first) {
         text(*first, after)
+    } else if is_operator_byte(*first) {
+        operator(rest)
     } else {
         mark(*first, after)
     }

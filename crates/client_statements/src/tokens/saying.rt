@@ -101,14 +101,16 @@ fn text_said(alloc: Global, bytes: &[u8]) -> Result<Items<u8>, AllocError>
 }
 
 // Promise: What a token says is its bytes, without quotes and `@@`, and with the escapes of a text resolved
-/// What a token of the text says: a word's and a number's bytes, what comes between the quotes of a name and of a text, where a
+/// What a token of the text says: the bytes of a word, a number and an operator, what comes between the quotes of a name and of a text, where a
 /// backslash escapes, and the word after `@@`. A sign says nothing.
 pub fn said(alloc: Global, text: &[u8], token: &Token) -> Result<Items<u8>, AllocError>
     ensures { IfOk result (λ said. said ≡ said_by token.now.kind (slice_range text.now token.now.start token.now.end)) }
 {
     let bytes = bytes_of(text, token.start, token.end);
     match token.kind {
-        TokenKind::Word(_) | TokenKind::Number => Items::from_slice(alloc, bytes),
+        TokenKind::Word(_) | TokenKind::Number | TokenKind::Operator => {
+            Items::from_slice(alloc, bytes)
+        }
         TokenKind::Name => Items::from_slice(alloc, inner(bytes)),
         TokenKind::Variable => Items::from_slice(alloc, after_two(bytes)),
         TokenKind::Text => text_said(alloc, bytes),

@@ -4,11 +4,11 @@ use Rattle.client_statements.specs.tokens.Keywords.{keyword_of}
 use Rattle.client_statements.specs.declared.tokens.body.TextState.{TextState}
 use Rattle.client_statements.specs.declared.tokens.body.TextState.TheVariants.{Inside, AfterQuote, AfterBackslash}
 use Rattle.client_statements.specs.declared.tokens.token.Sign as S
-use Rattle.client_statements.specs.declared.tokens.token.Sign.TheVariants.{Equal, Comma, Dot, LeftParenthesis, RightParenthesis, Semicolon}
+use Rattle.client_statements.specs.declared.tokens.token.Sign.TheVariants.{Assign, Comma, Dot, LeftParenthesis, RightParenthesis, Semicolon, Star, Minus}
 use Rattle.client_statements.specs.declared.tokens.token.Token.{Token}
 use Rattle.client_statements.specs.declared.tokens.token.TokenKind.{TokenKind}
 use Rattle.client_statements.specs.declared.tokens.token.TokenKind.TheVariants.{Word, Name, Variable, Number, Text, Sign}
-use Rattle.client_statements.specs.tokens.Pieces.{in_line, in_name, is_quote}
+use Rattle.client_statements.specs.tokens.Pieces.{in_line, in_name, is_quote, is_operator_byte, operator_kind}
 use Rattle.client_statements.specs.tokens.Tokens.{onto_tokens}
 use Rattle.sql_lexer.specs.Lexemes.{is_blank, is_letter, is_digit, is_word_byte}
 use Rattle.sql_lexer.specs.inner.Scanning.{run, first_passes}
@@ -58,19 +58,19 @@ variable_at [] = None
 variable_at (b ∷ bytes) = if (b == 0x40) && first_passes is_letter bytes then Some (Some Variable, run is_word_byte bytes + 2) else None
 
 unfoldable pub dashes_at : List ℕ → Option Front
-dashes_at [] = None
-dashes_at (b ∷ bytes) = if (b == 0x2D) && not (first_passes (λ c. not (is_blank c)) bytes) then Some (None, run in_line bytes + 2) else None
+dashes_at [] = Some (Some (Sign Minus), 1)
+dashes_at (b ∷ bytes) = if (b == 0x2D) && not (first_passes (λ c. not (is_blank c)) bytes) then Some (None, run in_line bytes + 2) else Some (Some (Sign Minus), 1)
 
 unfoldable pub remark_at : List ℕ → Option Front
 remark_at [] = None
 remark_at (b ∷ bytes) = if (b == 0x2A) && not (first_passes (λ c. c == 0x21) bytes) then option_map (λ n. (None, n + 2)) (remark_len bytes) else None
 
 unfoldable pub assigns_at : List ℕ → Option Front
-assigns_at bytes = if first_passes (λ c. c == 0x3D) bytes then Some (Some (Sign Equal), 2) else None
+assigns_at bytes = if first_passes (λ c. c == 0x3D) bytes then Some (Some (Sign Assign), 2) else None
 
 abbrev pub sign_at : ℕ → Option S.Sign
 sign_at b =
-    if b == 0x3D then Some Equal
+    if b == 0x2A then Some Star
     else if b == 0x2C then Some Comma
     else if b == 0x2E then Some Dot
     else if b == 0x28 then Some LeftParenthesis
@@ -91,6 +91,9 @@ mark_at b bytes =
 unfoldable pub word_at : List ℕ → Option Front
 word_at bytes = Some (Some (Word (keyword_of (take (run is_word_byte bytes) bytes))), run is_word_byte bytes)
 
+unfoldable pub operator_at : List ℕ → Option Front
+operator_at bytes = Some (Some (operator_kind (take (run is_operator_byte bytes) bytes)), run is_operator_byte bytes)
+
 unfoldable pub piece_at : List ℕ → Option Front
 piece_at [] = None
 piece_at (b ∷ bytes) =
@@ -98,6 +101,7 @@ piece_at (b ∷ bytes) =
     else if is_letter b then word_at (b ∷ bytes)
     else if is_digit b then number_at bytes
     else if is_quote b then text_at b bytes
+    else if is_operator_byte b then operator_at (b ∷ bytes)
     else mark_at b bytes
 
 -- n is at least the count of bytes, which are at this position of a text
