@@ -1,0 +1,90 @@
+-- Forms of MySQL that the grammar says in other words: for each what it reads at the front, what is written in its place, and the tokens after it. By
+-- 'SQL Statements' and 'Comparison Functions and Operators' of MySQL's reference manual.
+use Rattle.std.specs.Prelude.{ℕ, Bool, true, false, List, [], ◌∷◌, ◌++◌, codes, bytes_eq, Option, Some, None, if◌then◌else◌}
+use Rattle.std.specs.Option.{option_or}
+use Rattle.sql_lexer.specs.inner.Results.{◌>>=◌}
+use Rattle.client_statements.specs.declared.tokens.token.Keyword.TheVariants as k
+use Rattle.client_statements.specs.declared.tokens.token.Sign.TheVariants.{Comma, Dot, LeftParenthesis, RightParenthesis, Minus}
+use Rattle.client_statements.specs.tokens.Pieces.{Lexeme, bare, named, digits, quoted, operator, mark}
+use Rattle.client_words.specs.Spelling.{Lexemes, spelled}
+
+-- what is written, and the tokens after what was read
+abbrev pub Written : Type 0
+Written = Option (List ℕ × Lexemes)
+
+-- the column after its table and a dot
+unfoldable pub after_dot : Lexeme → Lexemes → Written
+after_dot table (bare key w ∷ rest) = Some (spelled (table ∷ mark Dot ∷ bare key w ∷ []), rest)
+after_dot table (named w ∷ rest) = Some (spelled (table ∷ mark Dot ∷ named w ∷ []), rest)
+after_dot table _ = None
+
+-- operand = name | name . name | number | - number | text
+unfoldable pub operand_at : Lexemes → Written
+operand_at (bare key w ∷ mark Dot ∷ rest) = after_dot (bare key w) rest
+operand_at (named w ∷ mark Dot ∷ rest) = after_dot (named w) rest
+operand_at (mark Minus ∷ digits n ∷ rest) = Some (spelled (mark Minus ∷ digits n ∷ []), rest)
+operand_at (bare key w ∷ rest) = Some (spelled (bare key w ∷ []), rest)
+operand_at (named w ∷ rest) = Some (spelled (named w ∷ []), rest)
+operand_at (digits n ∷ rest) = Some (spelled (digits n ∷ []), rest)
+operand_at (quoted w ∷ rest) = Some (spelled (quoted w ∷ []), rest)
+operand_at _ = None
+
+-- BETWEEN, or NOT BETWEEN
+unfoldable pub between_word_at : Lexemes → Option (Bool × Lexemes)
+between_word_at (bare (Some k.Between) w ∷ rest) = Some (false, rest)
+between_word_at (bare (Some k.Not) v ∷ bare (Some k.Between) w ∷ rest) = Some (true, rest)
+between_word_at _ = None
+
+unfoldable pub and_at : Lexemes → Option Lexemes
+and_at (bare (Some k.And) w ∷ rest) = Some rest
+and_at _ = None
+
+-- both bounds belong to what is between them
+abbrev pub within_text : List ℕ → List ℕ → List ℕ → List ℕ
+within_text x low high = codes " (" ++ x ++ codes " >=" ++ low ++ codes " AND" ++ x ++ codes " <=" ++ high ++ codes " )"
+
+abbrev pub between_text : Bool → List ℕ → List ℕ → List ℕ → List ℕ
+between_text true x low high = codes " NOT" ++ within_text x low high
+between_text false x low high = within_text x low high
+
+-- operand [NOT] BETWEEN low AND high
+unfoldable pub between_at : Lexemes → Written
+between_at ts = do
+  x ← operand_at ts
+  negated ← between_word_at x.1
+  low ← operand_at negated.1
+  rest ← and_at low.1
+  high ← operand_at rest
+  Some (between_text negated.0 x.0 low.0 high.0, high.1)
+
+-- LIMIT offset, count
+unfoldable pub limit_at : Lexemes → Written
+limit_at (bare (Some k.Limit) w ∷ digits m ∷ mark Comma ∷ digits n ∷ rest) = Some (codes " LIMIT " ++ n ++ codes " OFFSET " ++ m, rest)
+limit_at _ = None
+
+abbrev pub if_operator : List ℕ → List ℕ → Written → Written
+if_operator o wanted written = if bytes_eq o wanted then written else None
+
+-- <=> NULL, and a `!` before a parenthesis; before anything else it binds closer than NOT
+unfoldable pub operator_at : Lexemes → Written
+operator_at (operator o ∷ bare (Some k.Null) w ∷ rest) = if_operator o (codes "<=>") (Some (codes " IS NULL", rest))
+operator_at (operator o ∷ mark LeftParenthesis ∷ rest) = if_operator o (codes "!") (Some (codes " NOT (", rest))
+operator_at _ = None
+
+-- BEGIN WORK, COMMIT WORK, ROLLBACK WORK
+unfoldable pub work_at : Lexemes → Written
+work_at (bare (Some k.Begin) w ∷ bare (Some k.Work) v ∷ rest) = Some (codes " BEGIN", rest)
+work_at (bare (Some k.Commit) w ∷ bare (Some k.Work) v ∷ rest) = Some (codes " COMMIT", rest)
+work_at (bare (Some k.Rollback) w ∷ bare (Some k.Work) v ∷ rest) = Some (codes " ROLLBACK", rest)
+work_at _ = None
+
+-- INSERT without INTO; VALUE for VALUES, after the columns
+unfoldable pub insert_at : Lexemes → Written
+insert_at (bare (Some k.Insert) w ∷ bare (Some k.Into) v ∷ rest) = None
+insert_at (bare (Some k.Insert) w ∷ rest) = Some (codes " INSERT INTO", rest)
+insert_at (mark RightParenthesis ∷ bare (Some k.Value) w ∷ mark LeftParenthesis ∷ rest) = Some (codes " ) VALUES (", rest)
+insert_at _ = None
+
+-- the one of these forms that is at the front
+unfoldable pub form_at : Lexemes → Written
+form_at ts = option_or (between_at ts) (option_or (limit_at ts) (option_or (operator_at ts) (option_or (work_at ts) (insert_at ts))))

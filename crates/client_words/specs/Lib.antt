@@ -1,0 +1,4 @@
+pub mod Forms
+pub mod Sayings
+pub mod Spelling
+pub mod inner

@@ -1,0 +1,10 @@
+//! What a client says in other words than SQL as it is read here: the text of the grammar that means the same.
+#![tactic(auto)]
+
+mod forms;
+mod kinds;
+mod operands;
+mod saying;
+mod spelling;
+
+pub use saying::{Said, one_saying, said_as};

@@ -1,0 +1,82 @@
+//! What a client says as a text of the grammar.
+ghost use Rattle.std.specs.Prelude.{◌≡◌, ◌<◌, ◌≤◌, ℕ, List, IfOk, IfSome, Option, [], Some, length};
+ghost use Rattle.client_statements.specs.tokens.Pieces.{lexemes_of};
+ghost use Rattle.client_words.specs.Sayings.{Becomes, IsSaidAs};
+ghost use Rattle.client_words.specs.inner.Written.{IsPut};
+
+use crate::forms::form;
+use crate::spelling::{put, put_word};
+use client_statements::tokens::{Token, lex, one_lexing};
+use sql_tree::Name;
+use std::alloc::{AllocError, Global};
+use vt_value::{Items, Refusal};
+
+/// What a client says as a text of the grammar.
+#[derive(Drop)]
+pub struct Said {
+    pub text: Items<u8>,
+    /// The names that it gives columns, in order; the others keep theirs.
+    pub names: Items<Option<Name>>,
+}
+
+/// Puts what is at the front of tokens, and gives those after it.
+fn put_front<'s>(
+    alloc: Global,
+    out: &mut Vec<u8>,
+    text: &[u8],
+    tokens: &'s [Token],
+) -> Result<&'s [Token], AllocError>
+    requires some { 1 ≤ length tokens.now }
+    ensures put { IfOk result (λ rest. IsPut out.old.items out.new.items (lexemes_of text.now tokens.now) (lexemes_of text.now rest.now)) }
+    ensures shorter { IfOk result (λ rest. length rest.now < length tokens.now) }
+{
+    match form(alloc, text, tokens) {
+        Ok((written, rest)) => {
+            put(out, written.as_slice())?;
+            Ok(rest)
+        }
+        Err(Refusal::SyntaxError) => {
+            put_word(alloc, out, text, &tokens[0])?;
+            Ok(&tokens[1..])
+        }
+        Err(_) => Err(AllocError),
+    }
+}
+
+/// The text that tokens become.
+fn rewritten(alloc: Global, text: &[u8], tokens: &[Token]) -> Result<Items<u8>, AllocError>
+    ensures { IfOk result (λ whole. Becomes (lexemes_of text.now tokens.now) whole) }
+{
+    let mut out = Vec::with_capacity(alloc, text.len())?;
+    let mut rest = tokens;
+    while !rest.is_empty() {
+        rest = put_front(alloc, &mut out, text, rest)?;
+    }
+    Ok(Items::from_vec(out))
+}
+
+// Promise: What a client says in other words is written as the text of the grammar that means the same
+/// The text of the grammar that says what a client says, if that is tokens, blanks and comments. It is for a text that the grammar refuses: what
+/// comes of it may still have no tree.
+pub fn said_as(alloc: Global, text: &[u8]) -> Result<Option<Said>, AllocError>
+    ensures found { IfOk result (λ o. IfSome o (λ said. IsSaidAs text.now said.text said.names)) }
+    ensures only { (whole : List ℕ) (names : List (Option (List ℕ))) → IsSaidAs text.now whole names
+        → IfOk result (λ o. o ≡ Some (record { text = whole; names = names })) }
+{
+    one_saying();
+    let Some(tokens) = lex(alloc, text)? else {
+        return Ok(None);
+    };
+    let text = rewritten(alloc, text, tokens.as_slice())?;
+    Ok(Some(Said {
+        text,
+        names: Items::new(alloc),
+    }))
+}
+
+/// A text is said in one way.
+pub fn one_saying()
+    ensures { (text a b : List ℕ) (names others : List (Option (List ℕ))) → IsSaidAs text a names → IsSaidAs text b others → (a ≡ b) × (names ≡ others) }
+{
+    one_lexing();
+}
