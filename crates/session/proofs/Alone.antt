@@ -6,6 +6,7 @@ use Rattle.mysql_packet.specs.declared.framer.Fed.{Fed}
 use Rattle.mysql_packet.specs.declared.framer.Payload.{Payload}
 use Rattle.mysql_packet.specs.Frames.{frame}
 use Rattle.mysql_message.specs.Messages.{ok_payload}
+use Rattle.vt_value.specs.declared.refusal.Refusal.TheVariants.{SyntaxError}
 use Rattle.resultset.specs.declared.Outcome.{Outcome}
 use Rattle.resultset.specs.declared.Outcome.TheVariants.{Count, Refused}
 use Rattle.resultset.specs.Encoding.{encoded, after_rows}
@@ -96,9 +97,13 @@ module _ (o : Opening) (l : Limits) (handshake : Handshake) where
 
   text_on : (set then : Settings) (s now : PassAndTransaction) (text : List ℕ) (outcome : Outcome) → GivesText (context_of o handshake) May set s text outcome then now
       → Follows o s.pass now.pass
-  text_on set _ s _ text _ (given.run {outcome} {now} runs not_run) = run_on set s now text outcome runs
+  text_on set _ s _ text _ (given.run {outcome} {now} runs not_run held unsaid) = run_on set s now text outcome runs
+  text_on set _ s _ text _ (given.said {outcome} {mid} {now} whole names runs none is_said again) =
+      follow_on s.pass mid.pass now.pass (run_on set s mid text (Refused SyntaxError) runs) (run_on set mid now whole outcome again)
   text_on set _ s _ text _ (given.asked {outcome} {reply} {then} {mid} {now} statement runs not_run is_asked answers) =
       follow_on s.pass mid.pass now.pass (run_on set s mid text outcome runs) (client_on set then mid now statement reply answers)
+  text_on set _ s _ text _ (given.not_held is_asked) = stays o l s.pass
+  text_on set _ s _ text _ given.not_looked = stays o l s.pass
   text_on set _ s _ text _ (given.unread {outcome} {now} runs not_run) = run_on set s now text outcome runs
 
   answers_on : (at : Phase) (s now : PassAndTransaction) (p : Payload) (out : List ℕ) (b : ConnectionState) → AnswersPayload (context_of o handshake) May at s p out b now
@@ -227,9 +232,17 @@ module _ (o : Opening) (l : Limits) (handshake : Handshake) where
     text_alone : (x : Alone o) (s : PassAndTransaction) → x.kept ≡ s → (set then : Settings) (text : List ℕ) (outcome : Outcome) (now : PassAndTransaction)
         → GivesText (context_of o handshake) May set s text outcome then now → IsLegal (MayFollow o) s.pass.seen → NoOthers s.pass now.pass
         → Over_it now (λ y. GivesText (alone_context o handshake) (MeansAlone o l) set x text outcome then y)
-    text_alone x s e set _ text _ _ (given.run {outcome} {now} runs not_run) legal others =
+    text_alone x s e set _ text _ _ (given.run {outcome} {now} runs not_run held unsaid) legal others =
         let after = run_alone x s e set text outcome now runs legal others in
-        (after.0, after.1, given.run after.2 not_run)
+        (after.0, after.1, given.run after.2 not_run held unsaid)
+    text_alone x s e set _ text _ _ (given.said {outcome} {mid} {now} whole names runs none is_said again) legal others =
+        let first = run_on set s mid text (Refused SyntaxError) runs in
+        let second = run_on set mid now whole outcome again in
+        let database = run_alone x s e set text (Refused SyntaxError) mid runs legal (up_to s.pass now.pass others mid.pass first.later second.later) in
+        let two =
+        run_alone database.0 mid database.1 set whole outcome now again (first.legal legal)
+        (trailing s.pass now.pass others mid.pass first.later second.later first.session) in
+        (two.0, two.1, given.said whole names database.2 none is_said two.2)
     text_alone x s e set _ text _ _ (given.asked {outcome} {reply} {then} {mid} {now} statement runs not_run is_asked answers) legal others =
         let first = run_on set s mid text outcome runs in
         let second = client_on set then mid now statement reply answers in
@@ -238,6 +251,8 @@ module _ (o : Opening) (l : Limits) (handshake : Handshake) where
         client_alone database.0 mid database.1 set then statement reply now answers (first.legal legal)
         (trailing s.pass now.pass others mid.pass first.later second.later first.session) in
         (two.0, two.1, given.asked statement database.2 not_run is_asked two.2)
+    text_alone x s e set _ text _ _ (given.not_held is_asked) legal others = (x, e, given.not_held is_asked)
+    text_alone x s e set _ text _ _ given.not_looked legal others = (x, e, given.not_looked)
     text_alone x s e set _ text _ _ (given.unread {outcome} {now} runs not_run) legal others =
         let after = run_alone x s e set text outcome now runs legal others in
         (after.0, after.1, given.unread after.2 not_run)

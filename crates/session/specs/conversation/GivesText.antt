@@ -1,6 +1,6 @@
 -- What a text gives its client: what it means over the tables, in a transaction that is opened first if autocommit is off; or, if it is
--- no SQL that is run, what the session answers by itself to what the text asks of a server.
-use Rattle.std.specs.Prelude.{◌≡◌, ℕ, Bool, true, false, List, [], ◌∷◌, ◌++◌, codes, Some, None}
+-- no SQL that is run, what the session answers by itself to what the text asks of a server, or what it means in other words.
+use Rattle.std.specs.Prelude.{◌≡◌, ℕ, Bool, true, false, List, [], ◌∷◌, ◌++◌, codes, Option, Some, None}
 use Rattle.vt_value.specs.declared.refusal.Refusal.{Refusal}
 use Rattle.vt_value.specs.declared.refusal.Refusal.TheVariants as r
 use Rattle.vt_value.specs.Values.{Row}
@@ -18,7 +18,8 @@ use Rattle.client_statements.specs.declared.answers.ClientAnswer.TheVariants as 
 use Rattle.client_statements.specs.declared.statement.ClientStatement.{ClientStatement}
 use Rattle.client_statements.specs.declared.statement.ClientStatement.TheVariants.{Set, Begin, NotSupported, Use}
 use Rattle.client_statements.specs.Answers.{has_client_answer, IsClientAnswer}
-use Rattle.client_statements.specs.Asks.{Asks}
+use Rattle.client_statements.specs.Asks.{Asks, IsSet}
+use Rattle.client_words.specs.Sayings.{IsSaidAs}
 use Rattle.session.specs.declared.conversation.access.Handshake.{Handshake}
 use Rattle.session.specs.declared.conversation.connection_state.Settings.{Settings}
 use Rattle.session.specs.conversation.Logins.{keyspace_named}
@@ -116,10 +117,17 @@ module _ {S : Type 0} (context : SessionContext S) (May : S → List ℕ → Out
     not_read : NeedsOne context set s → RunsText s text (Refused r.OutOfMemory) s
 
   -- What a text gives, what holds for commands then, and what the session has then seen. A text that isn't run and asks something of the
-  -- server is answered that. If there is no memory to read what it asks, that is told.
+  -- server is answered that. A SET of what the server can't be set to is refused, also if it has a tree. One that has no tree and asks nothing gives what its other words do. If there
+  -- is no memory to read what it asks or says, that is told.
   pub data GivesText (s : S) (text : List ℕ) : Outcome → Settings → S → Type 0 where
     run : {outcome : Outcome} {now : S} → RunsText s text outcome now → (is_not_run outcome ≡ true → (statement : ClientStatement) → Asks text statement → ⊥)
+        → (IsSet text → Asks text NotSupported → ⊥) → (outcome ≡ Refused r.SyntaxError → (whole : List ℕ) (names : List (Option (List ℕ))) → IsSaidAs text whole names → ⊥)
         → GivesText s text outcome set now
     asked : {outcome reply : Outcome} {then : Settings} {mid now : S} (statement : ClientStatement) → RunsText s text outcome mid → is_not_run outcome ≡ true
         → Asks text statement → AnswersClient mid statement reply then now → GivesText s text reply then now
+    said : {outcome : Outcome} {mid now : S} (whole : List ℕ) (names : List (Option (List ℕ))) → RunsText s text (Refused r.SyntaxError) mid
+        → ((statement : ClientStatement) → Asks text statement → ⊥) → IsSaidAs text whole names → RunsText mid whole outcome now
+        → GivesText s text outcome set now
+    not_held : Asks text NotSupported → GivesText s text (Refused r.NotSupported) set s
+    not_looked : GivesText s text (Refused r.OutOfMemory) set s
     unread : {outcome : Outcome} {now : S} → RunsText s text outcome now → is_not_run outcome ≡ true → GivesText s text (Refused r.OutOfMemory) set now

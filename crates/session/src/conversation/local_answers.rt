@@ -1,17 +1,20 @@
 //! What the session answers by itself, without its tables.
-ghost use Rattle.std.specs.Prelude.{◌≡◌, ◌≢◌, ◌↔◌, true, false, is_some, IsNone, IfOk, IfSome};
+ghost use Rattle.std.specs.Prelude.{◌≡◌, ◌≢◌, ◌↔◌, ◌⊎◌, true, false, is_some, IsNone, IfOk, IfSome};
+ghost use Rattle.vt_value.specs.declared.refusal.Refusal.{Refusal};
 ghost use Rattle.vschema.specs.declared.schema.VSchema.{VSchema};
 ghost use Rattle.resultset.specs.declared.Outcome.{Outcome};
+ghost use Rattle.client_statements.specs.declared.statement.ClientStatement.{ClientStatement};
 ghost use Rattle.client_statements.specs.Answers.{has_client_answer, IsClientAnswer};
+ghost use Rattle.client_statements.specs.Asks.{Asks, IsSet};
 ghost use Rattle.session.specs.declared.conversation.access.Handshake.{Handshake};
 ghost use Rattle.session.specs.conversation.GivesText.{DefinesText, AllTexts, facts_of, TellsAnswer, TellsClient, is_not_run};
-ghost use Rattle.session.specs.conversation.inner.Tellings.{turns_on};
+ghost use Rattle.session.specs.conversation.inner.Tellings.{turns_on, refusal_of, is_syntax_error};
 
 use crate::conversation::access::Handshake;
 use crate::conversation::client_reply::{ClientReply, ClientReplyKind, ShownSet};
 use crate::conversation::connection_state::Settings;
 use crate::conversation::login::keyspace_named;
-use client_statements::{ClientAnswer, ClientStatement, Facts, answer};
+use client_statements::{ClientAnswer, ClientStatement, Facts, answer, may_set, read};
 use resultset::{Column, ColumnText, Kind};
 use route_engine::ShownRows;
 use sql_tree::Name;
@@ -28,6 +31,52 @@ pub fn not_run(outcome: &ClientReply) -> Option<Refusal>
         ClientReplyKind::Refused(Refusal::SyntaxError) => Some(Refusal::SyntaxError),
         ClientReplyKind::Refused(Refusal::NotSupported) => Some(Refusal::NotSupported),
         _ => None,
+    }
+}
+
+/// Whether a text was refused since it has no tree.
+pub fn is_syntax_error(why: Refusal) -> bool
+    ensures { result ≡ is_syntax_error why }
+{
+    match why {
+        Refusal::SyntaxError => true,
+        _ => false,
+    }
+}
+
+/// The refusal of a statement that was read as one that the server can't do, or wasn't for want of memory.
+fn refusal_of(asks: &Result<Option<ClientStatement>, AllocError>) -> Option<Refusal>
+    ensures { result ≡ refusal_of asks.now }
+{
+    match asks {
+        Ok(Some(ClientStatement::NotSupported)) => Some(Refusal::NotSupported),
+        Ok(_) => None,
+        Err(_) => Some(Refusal::OutOfMemory),
+    }
+}
+
+/// The refusal of a SET of what the server can't be set to. SQL has a tree for some that name a character set, so that this is asked before.
+#[inline(never)]
+fn read_set_refusal(alloc: Global, text: &[u8]) -> Option<Refusal>
+    ensures none { IsNone result → Asks text.now ClientStatement.NotSupported → ⊥ }
+    ensures some { IfSome result (λ why. (why ≡ Refusal.OutOfMemory) ⊎ ((why ≡ Refusal.NotSupported) × Asks text.now ClientStatement.NotSupported)) }
+{
+    let asks = read(alloc, text);
+    let refusal = refusal_of(&asks);
+    drop(asks);
+    refusal
+}
+
+/// The same, of a text that need not be a SET.
+#[inline(always)]
+pub fn set_refusal(alloc: Global, text: &[u8]) -> Option<Refusal>
+    ensures none { IsNone result → IsSet text.now → Asks text.now ClientStatement.NotSupported → ⊥ }
+    ensures some { IfSome result (λ why. (why ≡ Refusal.OutOfMemory) ⊎ ((why ≡ Refusal.NotSupported) × Asks text.now ClientStatement.NotSupported)) }
+{
+    if may_set(text) {
+        read_set_refusal(alloc, text)
+    } else {
+        None
     }
 }
 

@@ -7,6 +7,8 @@ ghost use Rattle.mysql_packet.specs.declared.framer.Payload.{Payload};
 ghost use Rattle.mysql_message.specs.Messages.{query, command_of, ok_payload, err_payload, statistics_payload};
 ghost use Rattle.resultset.specs.declared.Outcome.{Outcome};
 ghost use Rattle.resultset.specs.Encoding.{encoded, after_rows};
+ghost use Rattle.client_statements.specs.declared.statement.ClientStatement.{ClientStatement};
+ghost use Rattle.client_statements.specs.Asks.{Asks, IsSet};
 ghost use Rattle.session.specs.conversation.Means.{Means, context_of};
 ghost use Rattle.session.specs.conversation.inner.Means.{LeadsKept, AnswersAsked};
 ghost use Rattle.session.specs.conversation.Logins.{keyspace_named};
@@ -19,7 +21,7 @@ ghost use Rattle.session.specs.conversation.inner.Sessions.{command_payload};
 use crate::conversation::client_reply::{ClientReply, ClientReplyKind, ShownSet};
 use crate::conversation::connection_state::{ConnectionState, Phase, Settings, first_number};
 use crate::conversation::end::End;
-use crate::conversation::local_answers::not_run;
+use crate::conversation::local_answers::{not_run, refused, set_refusal};
 use crate::conversation::login::{keyspace_named, put_answer, put_response};
 use crate::conversation::responder::{ReplyState, Responder};
 use bytes::BytesMut;
@@ -284,6 +286,39 @@ impl<W: World + Send + Sync, J: Naming + Send + Sync, G: Gate, R: Threads + Wait
         (ConnectionState::At(Phase::Commands(then)), rows)
     }
 
+    /// The reply to a query that isn't refused before it is run, and the session's state after it.
+    fn put_run(
+        &self,
+        pass: &mut ShardPass<W, J>,
+        state: &mut ReplyState<W, J>,
+        settings: Settings,
+        text: &[u8],
+        number: u8,
+    ) -> (ConnectionState, Option<Chunks>)
+        requires empty { state.old.reply.items ≡ [] }
+        requires room { REPLY_ROOM ≤ state.old.reply.spare }
+        requires session { IsSome pass.old.session }
+        requires tx { IsOf W.opening state.old.tx pass.old }
+        requires held { IsSet text.now → Asks text.now ClientStatement.NotSupported → ⊥ }
+        ensures answers { (payload : Payload) → payload.first ≡ 0 → number ≡ reply_number payload → command_of payload.bytes ≡ Some (query text.now)
+            → LeadsKept W.opening pass.old state.old.tx pass.new state.new.tx
+            (λ s now. AnswersPayload (context_of W.opening self.now.handshake.now) (Means W.opening W.limits) (Phase.Commands settings) s payload (reply_bytes result.1 state.new.reply.items) result.0 now) }
+        ensures tx { IsOf W.opening state.new.tx pass.new }
+        ensures room { REPLY_ROOM ≤ length state.new.reply.items + state.new.reply.spare }
+        ensures session { pass.new.session ≡ pass.old.session }
+    {
+        let outcome = self.run_text(pass, &mut state.tx, settings, text);
+        match not_run(&outcome) {
+            None => {
+                let end = set_end_of(settings.capabilities);
+                let status = status_of(settings.autocommit, &state.tx);
+                let rows = put_outcome(self.alloc, outcome, end, number, status, &mut state.reply);
+                (ConnectionState::At(Phase::Commands(settings)), rows)
+            }
+            Some(why) => self.put_asked(pass, state, settings, text, why, number),
+        }
+    }
+
     /// The reply to a query, and the session's state after it.
     fn put_query(
         &self,
@@ -304,15 +339,15 @@ impl<W: World + Send + Sync, J: Naming + Send + Sync, G: Gate, R: Threads + Wait
         ensures room { REPLY_ROOM ≤ length state.new.reply.items + state.new.reply.spare }
         ensures session { pass.new.session ≡ pass.old.session }
     {
-        let outcome = self.run_text(pass, &mut state.tx, settings, text);
-        match not_run(&outcome) {
-            None => {
+        match set_refusal(self.alloc, text) {
+            None => self.put_run(pass, state, settings, text, number),
+            Some(why) => {
                 let end = set_end_of(settings.capabilities);
                 let status = status_of(settings.autocommit, &state.tx);
+                let outcome = refused(why);
                 let rows = put_outcome(self.alloc, outcome, end, number, status, &mut state.reply);
                 (ConnectionState::At(Phase::Commands(settings)), rows)
             }
-            Some(why) => self.put_asked(pass, state, settings, text, why, number),
         }
     }
 

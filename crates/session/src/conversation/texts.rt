@@ -5,6 +5,7 @@ ghost use Rattle.route_engine.specs.Answer.{Answer};
 ghost use Rattle.sql_tree.specs.declared.Statement.{Statement};
 ghost use Rattle.resultset.specs.declared.Outcome.{Outcome};
 ghost use Rattle.client_statements.specs.declared.statement.ClientStatement.{ClientStatement};
+ghost use Rattle.client_statements.specs.Asks.{Asks};
 ghost use Rattle.session.specs.declared.conversation.access.Handshake.{Handshake};
 ghost use Rattle.session.specs.declared.conversation.connection_state.Settings.{Settings};
 ghost use Rattle.session.specs.conversation.Columns.{AreColumns};
@@ -16,9 +17,10 @@ ghost use Rattle.session.specs.conversation.inner.Tellings.{turns_on};
 use crate::conversation::client_reply::{ClientReply, ClientReplyKind, ShownSet};
 use crate::conversation::columns::columns_of;
 use crate::conversation::connection_state::Settings;
-use crate::conversation::local_answers::{done, local_answer, refused, turns_on};
+use crate::conversation::local_answers::{done, is_syntax_error, local_answer, refused, turns_on};
 use crate::conversation::responder::Responder;
 use client_statements::{ClientStatement, read};
+use client_words::said_as;
 use journal::Naming;
 use route_engine::{Answer, Gate, Selected, ShardPass, Tx, World};
 use sql_parser::parse;
@@ -298,25 +300,58 @@ impl<
         }
     }
 
-    /// What is given by what a text asks of the server, and what then holds for commands; if that is nothing, it is refused for why it wasn't run.
+    /// What a text gives that asks nothing of the server: if it has no tree, by other words. If it has none either, it is refused for why it wasn't run.
+    fn answer_said(
+        &self,
+        pass: &mut ShardPass<W, J>,
+        tx: &mut Tx<W, J>,
+        settings: Settings,
+        text: &[u8],
+        why: Refusal,
+    ) -> (ClientReply<'e>, Settings)
+        requires session { IsSome pass.old.session }
+        requires tx { IsOf W.opening tx.old pass.old }
+        ensures gives { ((statement : ClientStatement) → Asks text.now statement → ⊥) → LeadsKept W.opening pass.old tx.old pass.new tx.new
+            (λ s now. AnswersAsked (context_of W.opening self.now.handshake.now) (Means W.opening W.limits) settings s text.now (Outcome.Refused why) result.0 result.1 now) }
+        ensures tx { IsOf W.opening tx.new pass.new }
+        ensures session { pass.new.session ≡ pass.old.session }
+    {
+        if !is_syntax_error(why) {
+            return (refused(why), settings);
+        }
+        match said_as(self.alloc, text) {
+            Ok(Some(said)) => {
+                let outcome = self.run_text(pass, tx, settings, said.text.as_slice());
+                drop(said);
+                (outcome, settings)
+            }
+            Ok(None) => (refused(why), settings),
+            Err(_) => (refused(Refusal::OutOfMemory), settings),
+        }
+    }
+
+    /// What is given by what a text asks of the server, and what then holds for commands; if that is nothing, by other words for it, or it is refused
+    /// for why it wasn't run.
     fn answer_read(
         &self,
         pass: &mut ShardPass<W, J>,
         tx: &mut Tx<W, J>,
         settings: Settings,
+        text: &[u8],
         why: Refusal,
         asks: &Option<ClientStatement>,
     ) -> (ClientReply<'e>, Settings)
         requires session { IsSome pass.old.session }
         requires tx { IsOf W.opening tx.old pass.old }
-        ensures gives { (text : List ℕ) → IsReading text asks.now → LeadsKept W.opening pass.old tx.old pass.new tx.new
-            (λ s now. AnswersAsked (context_of W.opening self.now.handshake.now) (Means W.opening W.limits) settings s text (Outcome.Refused why) result.0 result.1 now) }
+        requires reading { IsReading text.now asks.now }
+        ensures gives { LeadsKept W.opening pass.old tx.old pass.new tx.new
+            (λ s now. AnswersAsked (context_of W.opening self.now.handshake.now) (Means W.opening W.limits) settings s text.now (Outcome.Refused why) result.0 result.1 now) }
         ensures tx { IsOf W.opening tx.new pass.new }
         ensures session { pass.new.session ≡ pass.old.session }
     {
         match asks {
             Some(statement) => { self.statement_outcome(pass, tx, settings, statement) }
-            None => (refused(why), settings),
+            None => self.answer_said(pass, tx, settings, text, why),
         }
     }
 
@@ -338,7 +373,7 @@ impl<
     {
         match read(self.alloc, text) {
             Ok(asks) => {
-                let answered = self.answer_read(pass, tx, settings, why, &asks);
+                let answered = self.answer_read(pass, tx, settings, text, why, &asks);
                 drop(asks);
                 answered
             }

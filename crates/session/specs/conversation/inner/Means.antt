@@ -1,7 +1,7 @@
 -- Steps from what a session keeps to what it keeps then.
 use Rattle.std.specs.Prelude.{◌≡◌, ◌⊎◌, ℕ, Bool, false, List, Option, Some, None, Result, Ok, Err, IfSome, codes}
 use Rattle.vt_value.specs.declared.refusal.Refusal.{Refusal}
-use Rattle.vt_value.specs.declared.refusal.Refusal.TheVariants.{OutOfMemory}
+use Rattle.vt_value.specs.declared.refusal.Refusal.TheVariants.{OutOfMemory, SyntaxError}
 use Rattle.sql_tree.specs.declared.Statement.{Statement}
 use Rattle.resultset.specs.declared.Outcome.{Outcome}
 use Rattle.resultset.specs.declared.Outcome.TheVariants.{Rows, Count, Refused}
@@ -11,9 +11,10 @@ use Rattle.shard_run.specs.Runs.{Opening}
 use Rattle.route_engine.specs.Pendings.{OpenView}
 use Rattle.client_statements.specs.declared.statement.ClientStatement.{ClientStatement}
 use Rattle.client_statements.specs.Asks.{Asks}
+use Rattle.client_words.specs.Sayings.{IsSaidAs}
 use Rattle.session.specs.declared.conversation.connection_state.Settings.{Settings}
 use Rattle.session.specs.conversation.SessionContext.{SessionContext}
-use Rattle.session.specs.conversation.GivesText.{opens_one, AnswersClient}
+use Rattle.session.specs.conversation.GivesText.{opens_one, AnswersClient, RunsText}
 use Rattle.session.specs.conversation.Means.{PassAndTransaction, IsKept}
 
 -- From whatever pass and transaction were kept, this leads to some that are kept then.
@@ -35,11 +36,16 @@ pub record IsReading (text : List ℕ) (asks : Option ClientStatement) : Type 0 
   pub asked : IfSome asks (λ s. Asks text s)
   pub only : (s : ClientStatement) → Asks text s → asks ≡ Some s
 
--- What a text that isn't run gives by what it asks of the server; if that is nothing, the outcome that it had.
+-- What a text that isn't run gives by what it asks of the server; if that is nothing, what its other words give, or the outcome that it had.
 pub data AnswersAsked {S : Type 0} (context : SessionContext S) (May : S → List ℕ → Outcome → S → Type 0) (set : Settings) (s : S) (text : List ℕ) (outcome : Outcome) : Outcome → Settings → S → Type 0 where
   asked : {reply : Outcome} {then : Settings} {now : S} (statement : ClientStatement) → Asks text statement → AnswersClient context May set s statement reply then now
       → AnswersAsked context May set s text outcome reply then now
-  nothing : ((statement : ClientStatement) → Asks text statement → ⊥) → AnswersAsked context May set s text outcome outcome set s
+  nothing : ((statement : ClientStatement) → Asks text statement → ⊥)
+      → (outcome ≡ Refused SyntaxError → (whole : List ℕ) (names : List (Option (List ℕ))) → IsSaidAs text whole names → ⊥)
+      → AnswersAsked context May set s text outcome outcome set s
+  said : {reply : Outcome} {now : S} (whole : List ℕ) (names : List (Option (List ℕ))) → outcome ≡ Refused SyntaxError
+      → ((statement : ClientStatement) → Asks text statement → ⊥) → IsSaidAs text whole names → RunsText context May set s whole reply now
+      → AnswersAsked context May set s text outcome reply set now
   unread : AnswersAsked context May set s text outcome (Refused OutOfMemory) set s
 
 -- whether a text that was read opens a transaction; one without a tree opens none

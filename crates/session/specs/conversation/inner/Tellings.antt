@@ -1,9 +1,11 @@
--- The outcome of a reply, and the statement that turns autocommit on.
-use Rattle.std.specs.Prelude.{Bool, true, false, not, Some}
+-- The outcome of a reply, the statement that turns autocommit on, and the refusal of one that can't be done.
+use Rattle.std.specs.Prelude.{Bool, true, false, not, Option, Some, None, Result, Ok, Err}
+use Rattle.vt_value.specs.declared.refusal.Refusal.{Refusal}
+use Rattle.vt_value.specs.declared.refusal.Refusal.TheVariants as r
 use Rattle.resultset.specs.declared.Outcome.{Outcome}
 use Rattle.resultset.specs.declared.Outcome.TheVariants as o
 use Rattle.client_statements.specs.declared.statement.ClientStatement.{ClientStatement}
-use Rattle.client_statements.specs.declared.statement.ClientStatement.TheVariants.{Set}
+use Rattle.client_statements.specs.declared.statement.ClientStatement.TheVariants.{Set, NotSupported}
 use Rattle.session.specs.declared.conversation.connection_state.Settings.{Settings}
 use Rattle.session.specs.declared.conversation.client_reply.ClientReplyKind.{ClientReplyKind}
 use Rattle.session.specs.declared.conversation.client_reply.ClientReplyKind.TheVariants.{Rows, Count, Refused}
@@ -17,3 +19,13 @@ outcome_of_reply (Refused r) = o.Refused r
 abbrev pub turns_on : Settings → ClientStatement → Bool
 turns_on settings (Set (Some true)) = not settings.autocommit
 turns_on settings _ = false
+
+-- the refusal of what was read of a text: of one that the server can't do, or for want of memory
+abbrev pub refusal_of : {E : Type 0} → Result (Option ClientStatement) E → Option Refusal
+refusal_of (Ok (Some NotSupported)) = Some r.NotSupported
+refusal_of (Ok _) = None
+refusal_of (Err e) = Some r.OutOfMemory
+
+abbrev pub is_syntax_error : Refusal → Bool
+is_syntax_error r.SyntaxError = true
+is_syntax_error _ = false
