@@ -8,7 +8,7 @@ use Rattle.client_statements.specs.tokens.Pieces.{lexeme_of, lexemes_of}
 use Rattle.client_statements.specs.tokens.Tokens.{HasTokens}
 use Rattle.client_words.specs.declared.saying.Said.{Said}
 use Rattle.client_words.specs.Spelling.{Lexemes, spelled}
-use Rattle.client_words.specs.Forms.{form_at}
+use Rattle.client_words.specs.Forms.{table_of, form_at}
 use Rattle.client_words.specs.Sayings.{Becomes, IsSaidAs}
 use Rattle.client_words.specs.Sayings as s
 use Rattle.client_words.specs.inner.Written.{IsPut}
@@ -16,29 +16,31 @@ use Rattle.client_words.specs.inner.Written.{IsPut}
 some_is : {A : Type 0} (x y : A) → ◌≡◌ {A = Option A} (Some x) (Some y) → x ≡ y
 some_is x y e = cc
 
-pub one_becomes : (ts us : Lexemes) (a b : List ℕ) → ts ≡ us → Becomes ts a → Becomes us b → a ≡ b
-one_becomes _ _ _ _ same s.end s.end = refl
-one_becomes _ _ _ _ same s.end (s.form is more) = absurd (cc)
-one_becomes _ _ _ _ same s.end (s.word is more) = absurd (cc)
-one_becomes _ _ _ _ same (s.form is more) s.end = absurd (cc)
-one_becomes _ _ _ _ same (s.word is more) s.end = absurd (cc)
-one_becomes _ _ _ _ same (s.form {rest = r1} {written = w1} {more = m1} is1 b1) (s.form {rest = r2} {written = w2} {more = m2} is2 b2) =
-    let both : (w1, r1) ≡ (w2, r2) = some_is (w1, r1) (w2, r2) (sym is1 ∙ ap form_at same ∙ is2) in
+pub one_becomes : (table : Option (List ℕ)) (ts us : Lexemes) (a b : List ℕ) → ts ≡ us → Becomes table ts a → Becomes table us b → a ≡ b
+one_becomes table _ _ _ _ same s.end s.end = refl
+one_becomes table _ _ _ _ same s.end (s.form is more) = absurd (cc)
+one_becomes table _ _ _ _ same s.end (s.word is more) = absurd (cc)
+one_becomes table _ _ _ _ same (s.form is more) s.end = absurd (cc)
+one_becomes table _ _ _ _ same (s.word is more) s.end = absurd (cc)
+one_becomes table _ _ _ _ same (s.form {rest = r1} {written = w1} {more = m1} is1 b1) (s.form {rest = r2} {written = w2} {more = m2} is2 b2) =
+    let both : (w1, r1) ≡ (w2, r2) = some_is (w1, r1) (w2, r2) (sym is1 ∙ ap (form_at table) same ∙ is2) in
     let written : w1 ≡ w2 = ap (λ (x : List ℕ × Lexemes). x.0) both in
     let rest : r1 ≡ r2 = ap (λ (x : List ℕ × Lexemes). x.1) both in
-    rw (written, one_becomes r1 r2 m1 m2 rest b1 b2) refl
-one_becomes _ _ _ _ same (s.form is1 b1) (s.word is2 b2) = let none = sym is1 ∙ ap form_at same ∙ is2 in absurd (cc)
-one_becomes _ _ _ _ same (s.word is1 b1) (s.form is2 b2) = let none = sym is1 ∙ ap form_at same ∙ is2 in absurd (cc)
-one_becomes _ _ _ _ same (s.word {t = t1} {ts = ts1} {more = m1} is1 b1) (s.word {t = t2} {ts = ts2} {more = m2} is2 b2) =
+    rw (written, one_becomes table r1 r2 m1 m2 rest b1 b2) refl
+one_becomes table _ _ _ _ same (s.form is1 b1) (s.word is2 b2) = let none = sym is1 ∙ ap (form_at table) same ∙ is2 in absurd (cc)
+one_becomes table _ _ _ _ same (s.word is1 b1) (s.form is2 b2) = let none = sym is1 ∙ ap (form_at table) same ∙ is2 in absurd (cc)
+one_becomes table _ _ _ _ same (s.word {t = t1} {ts = ts1} {more = m1} is1 b1) (s.word {t = t2} {ts = ts2} {more = m2} is2 b2) =
     let head : t1 ≡ t2 = cc in
     let tail : ts1 ≡ ts2 = cc in
-    rw (head, one_becomes ts1 ts2 m1 m2 tail b1 b2) refl
+    rw (head, one_becomes table ts1 ts2 m1 m2 tail b1 b2) refl
 
 pub one_said : (text a b : List ℕ) (names others : List (Option (List ℕ))) → ((ts us : List Token) → HasTokens text ts → HasTokens text us → ts ≡ us)
     → IsSaidAs text a names → IsSaidAs text b others → (a ≡ b) × (names ≡ others)
 one_said text a b _ _ one (s.said {tokens = ts} has becomes) (s.said {tokens = us} has_too becomes_too) =
     let same : lexemes_of text ts ≡ lexemes_of text us = ap (lexemes_of text) (one ts us has has_too) in
-    (one_becomes (lexemes_of text ts) (lexemes_of text us) a b same becomes becomes_too, refl)
+    let again : Becomes (table_of (lexemes_of text ts)) (lexemes_of text us) b =
+    subst (λ (x : Lexemes). Becomes (table_of x) (lexemes_of text us) b) (sym same) becomes_too in
+    (one_becomes (table_of (lexemes_of text ts)) (lexemes_of text ts) (lexemes_of text us) a b same becomes again, refl)
 
 -- a text that is said in other words has tokens
 pub has_some : (text whole : List ℕ) (names : List (Option (List ℕ))) → IsSaidAs text whole names → (tokens : List Token) × HasTokens text tokens
@@ -46,39 +48,39 @@ has_some text whole _ (s.said {tokens} has becomes) = (tokens, has)
 
 -- ---- the text that was written so far
 
-module _ (tokens : Lexemes) where
+module _ (table : Option (List ℕ)) (tokens : Lexemes) where
   -- what is written, and what the rest becomes
   abbrev pub IsWritten : List ℕ → Lexemes → Type 0
-  IsWritten written rest = (more : List ℕ) → Becomes rest more → Becomes tokens (written ++ more)
+  IsWritten written rest = (more : List ℕ) → Becomes table rest more → Becomes table tokens (written ++ more)
 
-  pub whole_written : (written : List ℕ) (rest : Lexemes) → rest ≡ [] → IsWritten written rest → Becomes tokens written
+  pub whole_written : (written : List ℕ) (rest : Lexemes) → rest ≡ [] → IsWritten written rest → Becomes table tokens written
   whole_written written rest none is =
-      subst (Becomes tokens) (append-nil written) (is [] (subst (λ (ts : Lexemes). Becomes ts []) (sym none) s.end))
+      subst (Becomes table tokens) (append-nil written) (is [] (subst (λ (ts : Lexemes). Becomes table ts []) (sym none) s.end))
 
-  pub more_written : (written then : List ℕ) (rest after : Lexemes) → IsPut written then rest after → IsWritten written rest → IsWritten then after
+  pub more_written : (written then : List ℕ) (rest after : Lexemes) → IsPut table written then rest after → IsWritten written rest → IsWritten then after
   more_written written then rest after put so_far = λ more becomes.
-      subst (Becomes tokens) (sym (append_assoc written put.front more) ∙ ap (λ (x : List ℕ). x ++ more) (sym put.is))
+      subst (Becomes table tokens) (sym (append_assoc written put.front more) ∙ ap (λ (x : List ℕ). x ++ more) (sym put.is))
       (so_far (put.front ++ more) (put.joins more becomes))
 
 -- nothing is written yet
-pub none_written : (tokens : Lexemes) → IsWritten tokens [] tokens
-none_written tokens = λ more becomes. becomes
+pub none_written : (table : Option (List ℕ)) (tokens : Lexemes) → IsWritten table tokens [] tokens
+none_written table tokens = λ more becomes. becomes
 
 -- no tokens say nothing
 pub no_words : (text : List ℕ) (ts : List Token) → nat_eq (length ts) 0 ≡ true → lexemes_of text ts ≡ []
 no_words text [] none = refl
 no_words text (t ∷ ts) none = absurd (omega (arith, eqb-true (length (t ∷ ts)) 0 none))
 
-form_joins : (ts rest : Lexemes) (written more : List ℕ) → 1 ≤ length ts → form_at ts ≡ Some (written, rest) → Becomes rest more → Becomes ts (written ++ more)
-form_joins [] rest written more some is becomes = absurd (omega arith)
-form_joins (t ∷ ts) rest written more some is becomes = s.form is becomes
+form_joins : (table : Option (List ℕ)) (ts rest : Lexemes) (written more : List ℕ) → 1 ≤ length ts → form_at table ts ≡ Some (written, rest) → Becomes table rest more → Becomes table ts (written ++ more)
+form_joins table [] rest written more some is becomes = absurd (omega arith)
+form_joins table (t ∷ ts) rest written more some is becomes = s.form is becomes
 
-pub form_put : (text : List ℕ) (tokens after : List Token) (out then written : List ℕ) → 1 ≤ length tokens → then ≡ out ++ written
-    → form_at (lexemes_of text tokens) ≡ Some (written, lexemes_of text after) → IsPut out then (lexemes_of text tokens) (lexemes_of text after)
-form_put text tokens after out then written some is at = record {
+pub form_put : (table : Option (List ℕ)) (text : List ℕ) (tokens after : List Token) (out then written : List ℕ) → 1 ≤ length tokens → then ≡ out ++ written
+    → form_at table (lexemes_of text tokens) ≡ Some (written, lexemes_of text after) → IsPut table out then (lexemes_of text tokens) (lexemes_of text after)
+form_put table text tokens after out then written some is at = record {
   front = written;
   is = is;
-  joins = λ more becomes. form_joins (lexemes_of text tokens) (lexemes_of text after) written more (rw length-map some) at becomes;
+  joins = λ more becomes. form_joins table (lexemes_of text tokens) (lexemes_of text after) written more (rw length-map some) at becomes;
 }
 
 take_whole : (ts : List Token) → take (length ts) ts ≡ ts
@@ -88,14 +90,14 @@ take_whole (t ∷ ts) = ap (λ (us : List Token). t ∷ us) (take_whole ts)
 rest_whole : (t : Token) (ts : List Token) → take (length (t ∷ ts) - 1) ts ≡ ts
 rest_whole t ts = let one : length (t ∷ ts) - 1 ≡ length ts = omega arith in rw one (take_whole ts)
 
-pub word_put : (text : List ℕ) (tokens : List Token) (none : Token) (out then : List ℕ) → 1 ≤ length tokens
-    → then ≡ out ++ spelled (lexeme_of text (slice_index_or tokens 0 none) ∷ []) → form_at (lexemes_of text tokens) ≡ None
-    → IsPut out then (lexemes_of text tokens) (lexemes_of text (take (length tokens - 1) (drop 1 tokens)))
-word_put text [] none out then some is at = absurd (omega arith)
-word_put text (t ∷ tokens) none out then some is at = record {
+pub word_put : (table : Option (List ℕ)) (text : List ℕ) (tokens : List Token) (none : Token) (out then : List ℕ) → 1 ≤ length tokens
+    → then ≡ out ++ spelled (lexeme_of text (slice_index_or tokens 0 none) ∷ []) → form_at table (lexemes_of text tokens) ≡ None
+    → IsPut table out then (lexemes_of text tokens) (lexemes_of text (take (length tokens - 1) (drop 1 tokens)))
+word_put table text [] none out then some is at = absurd (omega arith)
+word_put table text (t ∷ tokens) none out then some is at = record {
   front = spelled (lexeme_of text t ∷ []);
   is = is;
-  joins = λ more becomes. s.word at (subst (λ (ts : List Token). Becomes (lexemes_of text ts) more) (rest_whole t tokens) becomes);
+  joins = λ more becomes. s.word at (subst (λ (ts : List Token). Becomes table (lexemes_of text ts) more) (rest_whole t tokens) becomes);
 }
 
 pub same_said : (a b : List ℕ) (names others : List (Option (List ℕ))) → a ≡ b → names ≡ others

@@ -1,16 +1,65 @@
 -- Forms of MySQL that the grammar says in other words: for each what it reads at the front, what is written in its place, and the tokens after it. By
 -- 'SQL Statements' and 'Comparison Functions and Operators' of MySQL's reference manual.
-use Rattle.std.specs.Prelude.{ℕ, Bool, true, false, List, [], ◌∷◌, ◌++◌, codes, bytes_eq, Option, Some, None, if◌then◌else◌}
+use Rattle.std.specs.Prelude.{ℕ, Bool, true, false, ◌&&◌, List, [], ◌∷◌, ◌++◌, codes, bytes_eq, Option, Some, None, if◌then◌else◌}
 use Rattle.std.specs.Option.{option_or}
 use Rattle.sql_lexer.specs.inner.Results.{◌>>=◌}
 use Rattle.client_statements.specs.declared.tokens.token.Keyword.TheVariants as k
-use Rattle.client_statements.specs.declared.tokens.token.Sign.TheVariants.{Comma, Dot, LeftParenthesis, RightParenthesis, Minus}
+use Rattle.client_statements.specs.declared.tokens.token.Sign.TheVariants.{Comma, Dot, Semicolon, Star, LeftParenthesis, RightParenthesis, Minus}
 use Rattle.client_statements.specs.tokens.Pieces.{Lexeme, bare, named, digits, quoted, operator, mark}
 use Rattle.client_words.specs.Spelling.{Lexemes, spelled}
 
 -- what is written, and the tokens after what was read
 abbrev pub Written : Type 0
 Written = Option (List ℕ × Lexemes)
+
+-- what a name says
+abbrev pub name_of : Lexeme → Option (List ℕ)
+name_of (bare key w) = Some w
+name_of (named w) = Some w
+name_of _ = None
+
+unfoldable pub before_set : Lexemes → Option (List ℕ)
+before_set (t ∷ bare (Some k.Set) w ∷ rest) = name_of t
+before_set _ = None
+
+unfoldable pub before_where : Lexemes → Option (List ℕ)
+before_where (t ∷ bare (Some k.Where) w ∷ rest) = name_of t
+before_where _ = None
+
+-- the one table of an UPDATE or a DELETE: its name may stand before a column and a dot, which the grammar has in a SELECT alone
+unfoldable pub table_of : Lexemes → Option (List ℕ)
+table_of (bare (Some k.Update) w ∷ rest) = before_set rest
+table_of (bare (Some k.Delete) w ∷ bare (Some k.From) v ∷ rest) = before_where rest
+table_of _ = None
+
+abbrev pub is_table : Option (List ℕ) → Option (List ℕ) → Bool
+is_table (Some table) (Some name) = bytes_eq name table
+is_table _ _ = false
+
+-- without the table and its dot at the front
+unfoldable pub unqualified : Option (List ℕ) → Lexemes → Lexemes
+unqualified table (t ∷ mark Dot ∷ rest) = if is_table table (name_of t) then rest else t ∷ mark Dot ∷ rest
+unqualified table ts = ts
+
+-- the table and its dot, which aren't written
+unfoldable pub qualifier_at : Option (List ℕ) → Lexemes → Written
+qualifier_at table (t ∷ mark Dot ∷ rest) = if is_table table (name_of t) then Some ([], rest) else None
+qualifier_at table _ = None
+
+-- SELECT t.* FROM t: the columns of the one table
+abbrev pub is_one_table : Lexemes → Bool
+is_one_table [] = true
+is_one_table (mark Semicolon ∷ rest) = true
+is_one_table (bare (Some k.Where) w ∷ rest) = true
+is_one_table (bare (Some k.Group) w ∷ rest) = true
+is_one_table (bare (Some k.Order) w ∷ rest) = true
+is_one_table (bare (Some k.Limit) w ∷ rest) = true
+is_one_table _ = false
+
+unfoldable pub star_at : Lexemes → Written
+star_at (bare (Some k.Select) u ∷ t ∷ mark Dot ∷ mark Star ∷ bare (Some k.From) v ∷ table ∷ rest) =
+    if is_table (name_of table) (name_of t) && is_one_table rest then Some (codes " SELECT * FROM" ++ spelled (table ∷ []), rest) else None
+star_at _ = None
 
 -- the column after its table and a dot
 unfoldable pub after_dot : Lexeme → Lexemes → Written
@@ -48,13 +97,13 @@ between_text true x low high = codes " NOT" ++ within_text x low high
 between_text false x low high = within_text x low high
 
 -- operand [NOT] BETWEEN low AND high
-unfoldable pub between_at : Lexemes → Written
-between_at ts = do
-  x ← operand_at ts
+unfoldable pub between_at : Option (List ℕ) → Lexemes → Written
+between_at table ts = do
+  x ← operand_at (unqualified table ts)
   negated ← between_word_at x.1
-  low ← operand_at negated.1
+  low ← operand_at (unqualified table negated.1)
   rest ← and_at low.1
-  high ← operand_at rest
+  high ← operand_at (unqualified table rest)
   Some (between_text negated.0 x.0 low.0 high.0, high.1)
 
 -- LIMIT offset, count
@@ -86,5 +135,7 @@ insert_at (mark RightParenthesis ∷ bare (Some k.Value) w ∷ mark LeftParenthe
 insert_at _ = None
 
 -- the one of these forms that is at the front
-unfoldable pub form_at : Lexemes → Written
-form_at ts = option_or (between_at ts) (option_or (limit_at ts) (option_or (operator_at ts) (option_or (work_at ts) (insert_at ts))))
+unfoldable pub form_at : Option (List ℕ) → Lexemes → Written
+form_at table ts =
+    option_or (between_at table ts) (option_or (qualifier_at table ts) (option_or (star_at ts)
+    (option_or (limit_at ts) (option_or (operator_at ts) (option_or (work_at ts) (insert_at ts))))))

@@ -3,7 +3,7 @@ ghost use Rattle.std.specs.Prelude.{◌≡◌, ◌<◌, ◌++◌, ℕ, List, IfO
 ghost use Rattle.std.specs.Option.{option_or};
 ghost use Rattle.sql_lexer.specs.inner.Results.{AgreesWith};
 ghost use Rattle.client_statements.specs.tokens.Pieces.{lexemes_of, said_by};
-ghost use Rattle.client_words.specs.Forms.{between_word_at, and_at, within_text, between_text, between_at, limit_at, if_operator, operator_at, work_at, insert_at, form_at};
+ghost use Rattle.client_words.specs.Forms.{between_word_at, and_at, within_text, between_text, between_at, star_at, limit_at, if_operator, operator_at, work_at, insert_at, form_at};
 
 use crate::kinds::{
     AND, BEGIN, BETWEEN, CLOSE, COMMA, COMMIT, INSERT, INTO, LIMIT, NOT, NULL, OPEN, ROLLBACK,
@@ -11,7 +11,9 @@ use crate::kinds::{
 };
 use crate::operands::{Written, operand};
 use crate::spelling::put;
+use crate::tables::{qualifier, star, unqualified};
 use client_statements::tokens::{Token, TokenKind, said};
+use sql_tree::Name;
 use std::alloc::{AllocError, Global};
 use vt_value::{Items, Refusal};
 
@@ -89,15 +91,20 @@ fn between_text(
 
 /// operand [NOT] BETWEEN low AND high
 #[tactic(auto, unfolding(crate::specs::Forms::between_at))]
-fn between<'s>(alloc: Global, text: &[u8], tokens: &'s [Token]) -> Result<Written<'s>, Refusal>
-    ensures written { AgreesWith (λ x. (x.0, lexemes_of text.now x.1.now)) result (between_at (lexemes_of text.now tokens.now)) }
+fn between<'s>(
+    alloc: Global,
+    text: &[u8],
+    table: &Option<Name>,
+    tokens: &'s [Token],
+) -> Result<Written<'s>, Refusal>
+    ensures written { AgreesWith (λ x. (x.0, lexemes_of text.now x.1.now)) result (between_at table.now (lexemes_of text.now tokens.now)) }
     ensures shorter { IfOk result (λ x. length x.1.now < length tokens.now) }
 {
-    let (x, rest) = operand(alloc, text, tokens)?;
+    let (x, rest) = operand(alloc, text, unqualified(alloc, text, table, tokens)?)?;
     let (negated, rest) = between_word(rest)?;
-    let (low, rest) = operand(alloc, text, rest)?;
+    let (low, rest) = operand(alloc, text, unqualified(alloc, text, table, rest)?)?;
     let rest = and(rest)?;
-    let (high, rest) = operand(alloc, text, rest)?;
+    let (high, rest) = operand(alloc, text, unqualified(alloc, text, table, rest)?)?;
     let written = between_text(
         alloc,
         negated,
@@ -266,18 +273,40 @@ fn other_form<'s>(alloc: Global, text: &[u8], tokens: &'s [Token]) -> Result<Wri
     }
 }
 
-/// The form at the front.
-#[tactic(auto, unfolding(crate::specs::Forms::form_at))]
-pub fn form<'s>(alloc: Global, text: &[u8], tokens: &'s [Token]) -> Result<Written<'s>, Refusal>
-    ensures written { AgreesWith (λ x. (x.0, lexemes_of text.now x.1.now)) result (form_at (lexemes_of text.now tokens.now)) }
+/// A form that begins with a word of a statement, or with an operator.
+fn word_form<'s>(alloc: Global, text: &[u8], tokens: &'s [Token]) -> Result<Written<'s>, Refusal>
+    ensures written { AgreesWith (λ x. (x.0, lexemes_of text.now x.1.now)) result
+        (option_or (star_at (lexemes_of text.now tokens.now)) (option_or (limit_at (lexemes_of text.now tokens.now))
+        (option_or (operator_at (lexemes_of text.now tokens.now)) (option_or (work_at (lexemes_of text.now tokens.now)) (insert_at (lexemes_of text.now tokens.now)))))) }
     ensures shorter { IfOk result (λ x. length x.1.now < length tokens.now) }
 {
-    match between(alloc, text, tokens) {
+    match star(alloc, text, tokens) {
         Err(Refusal::SyntaxError) => {}
         read => return read,
     }
     match limit(alloc, text, tokens) {
         Err(Refusal::SyntaxError) => other_form(alloc, text, tokens),
+        read => read,
+    }
+}
+
+/// The form at the front, by the table of the statement.
+#[tactic(auto, unfolding(crate::specs::Forms::form_at))]
+pub fn form<'s>(
+    alloc: Global,
+    text: &[u8],
+    table: &Option<Name>,
+    tokens: &'s [Token],
+) -> Result<Written<'s>, Refusal>
+    ensures written { AgreesWith (λ x. (x.0, lexemes_of text.now x.1.now)) result (form_at table.now (lexemes_of text.now tokens.now)) }
+    ensures shorter { IfOk result (λ x. length x.1.now < length tokens.now) }
+{
+    match between(alloc, text, table, tokens) {
+        Err(Refusal::SyntaxError) => {}
+        read => return read,
+    }
+    match qualifier(alloc, text, table, tokens) {
+        Err(Refusal::SyntaxError) => word_form(alloc, text, tokens),
         read => read,
     }
 }

@@ -25,6 +25,22 @@ pub const VALUE: TokenKind = TokenKind::Word(Some(Keyword::Value));
 
 pub const WORK: TokenKind = TokenKind::Word(Some(Keyword::Work));
 
+pub const DELETE: TokenKind = TokenKind::Word(Some(Keyword::Delete));
+
+pub const FROM: TokenKind = TokenKind::Word(Some(Keyword::From));
+
+pub const GROUP: TokenKind = TokenKind::Word(Some(Keyword::Group));
+
+pub const ORDER: TokenKind = TokenKind::Word(Some(Keyword::Order));
+
+pub const SELECT: TokenKind = TokenKind::Word(Some(Keyword::Select));
+
+pub const SET: TokenKind = TokenKind::Word(Some(Keyword::Set));
+
+pub const UPDATE: TokenKind = TokenKind::Word(Some(Keyword::Update));
+
+pub const WHERE: TokenKind = TokenKind::Word(Some(Keyword::Where));
+
 pub const COMMA: TokenKind = TokenKind::Sign(Sign::Comma);
 
 pub const DOT: TokenKind = TokenKind::Sign(Sign::Dot);
@@ -34,3 +50,7 @@ pub const OPEN: TokenKind = TokenKind::Sign(Sign::LeftParenthesis);
 pub const CLOSE: TokenKind = TokenKind::Sign(Sign::RightParenthesis);
 
 pub const MINUS: TokenKind = TokenKind::Sign(Sign::Minus);
+
+pub const SEMICOLON: TokenKind = TokenKind::Sign(Sign::Semicolon);
+
+pub const STAR: TokenKind = TokenKind::Sign(Sign::Star);

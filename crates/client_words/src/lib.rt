@@ -6,5 +6,6 @@ mod kinds;
 mod operands;
 mod saying;
 mod spelling;
+mod tables;
 
 pub use saying::{Said, one_saying, said_as};

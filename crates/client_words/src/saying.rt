@@ -1,11 +1,13 @@
 //! What a client says as a text of the grammar.
 ghost use Rattle.std.specs.Prelude.{◌≡◌, ◌<◌, ◌≤◌, ℕ, List, IfOk, IfSome, Option, [], Some, length};
 ghost use Rattle.client_statements.specs.tokens.Pieces.{lexemes_of};
+ghost use Rattle.client_words.specs.Forms.{table_of};
 ghost use Rattle.client_words.specs.Sayings.{Becomes, IsSaidAs};
 ghost use Rattle.client_words.specs.inner.Written.{IsPut};
 
 use crate::forms::form;
 use crate::spelling::{put, put_word};
+use crate::tables::table_of;
 use client_statements::tokens::{Token, lex, one_lexing};
 use sql_tree::Name;
 use std::alloc::{AllocError, Global};
@@ -24,13 +26,14 @@ fn put_front<'s>(
     alloc: Global,
     out: &mut Vec<u8>,
     text: &[u8],
+    table: &Option<Name>,
     tokens: &'s [Token],
 ) -> Result<&'s [Token], AllocError>
     requires some { 1 ≤ length tokens.now }
-    ensures put { IfOk result (λ rest. IsPut out.old.items out.new.items (lexemes_of text.now tokens.now) (lexemes_of text.now rest.now)) }
+    ensures put { IfOk result (λ rest. IsPut table.now out.old.items out.new.items (lexemes_of text.now tokens.now) (lexemes_of text.now rest.now)) }
     ensures shorter { IfOk result (λ rest. length rest.now < length tokens.now) }
 {
-    match form(alloc, text, tokens) {
+    match form(alloc, text, table, tokens) {
         Ok((written, rest)) => {
             put(out, written.as_slice())?;
             Ok(rest)
@@ -43,16 +46,29 @@ fn put_front<'s>(
     }
 }
 
-/// The text that tokens become.
-fn rewritten(alloc: Global, text: &[u8], tokens: &[Token]) -> Result<Items<u8>, AllocError>
-    ensures { IfOk result (λ whole. Becomes (lexemes_of text.now tokens.now) whole) }
+/// The text that tokens become, by the table of the statement.
+fn rewritten(
+    alloc: Global,
+    text: &[u8],
+    table: &Option<Name>,
+    tokens: &[Token],
+) -> Result<Items<u8>, AllocError>
+    ensures { IfOk result (λ whole. Becomes table.now (lexemes_of text.now tokens.now) whole) }
 {
     let mut out = Vec::with_capacity(alloc, text.len())?;
     let mut rest = tokens;
     while !rest.is_empty() {
-        rest = put_front(alloc, &mut out, text, rest)?;
+        rest = put_front(alloc, &mut out, text, table, rest)?;
     }
     Ok(Items::from_vec(out))
+}
+
+/// The text that tokens become.
+fn said_text(alloc: Global, text: &[u8], tokens: &[Token]) -> Result<Items<u8>, AllocError>
+    ensures { IfOk result (λ whole. Becomes (table_of (lexemes_of text.now tokens.now)) (lexemes_of text.now tokens.now) whole) }
+{
+    let table = table_of(alloc, text, tokens)?;
+    rewritten(alloc, text, &table, tokens)
 }
 
 // Promise: What a client says in other words is written as the text of the grammar that means the same
@@ -67,7 +83,7 @@ pub fn said_as(alloc: Global, text: &[u8]) -> Result<Option<Said>, AllocError>
     let Some(tokens) = lex(alloc, text)? else {
         return Ok(None);
     };
-    let text = rewritten(alloc, text, tokens.as_slice())?;
+    let text = said_text(alloc, text, tokens.as_slice())?;
     Ok(Some(Said {
         text,
         names: Items::new(alloc),
