@@ -14,6 +14,7 @@ pub mod OrdinalLemmas
 pub mod Firsts
 pub mod Counted
 pub mod TotalLemmas
+pub mod ExtremeRows
 pub mod LentRows
 pub mod Lent
 pub mod Members

@@ -3,6 +3,7 @@ pub mod Groups
 pub mod Grouping
 pub mod Queries
 pub mod Counts
+pub mod Extremes
 pub mod KeyOrder
 pub mod Narrowing
 pub mod Pairs

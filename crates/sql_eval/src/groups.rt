@@ -108,7 +108,7 @@ fn one_of(value: &Value) -> Value
 }
 
 /// A copy of the value of a row at an ordinal, NULL after its end.
-fn copy_at(alloc: Global, row: &Row, ordinal: usize) -> Result<Value, AllocError>
+pub fn copy_at(alloc: Global, row: &Row, ordinal: usize) -> Result<Value, AllocError>
     ensures ok { IfOk result (λ value. value ≡ value_at row.now ordinal) }
 {
     let null = Value::Null;

@@ -3,6 +3,7 @@
 
 mod conditions;
 mod duplicates;
+mod extremes;
 mod filters;
 mod fronts;
 mod groups;
@@ -18,6 +19,7 @@ mod writes;
 
 pub use conditions::{Seen, keeps, truth};
 pub use duplicates::{has_key_among, in_key_order};
+pub use extremes::{extreme_key, select_extreme};
 pub use groups::{Grouping, copy_item, group_columns, group_order};
 pub use joins::{PairSource, SlicePairs, copy_seen, is_pair, select_pairs};
 pub use narrowed::{Narrowed, Whole, narrow};

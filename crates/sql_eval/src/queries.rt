@@ -241,8 +241,12 @@ fn grouped<'a, S: RowSource<'a>>(
     grouping.joined(alloc, parts)
 }
 
-// What is shown of the rows of a query's groups.
-fn show_groups(alloc: Global, query: &Query, groups: Items<Row>) -> Result<Items<Row>, AllocError>
+/// What is shown of the rows of a query's groups. Refuses only for want of memory.
+pub fn show_groups(
+    alloc: Global,
+    query: &Query,
+    groups: Items<Row>,
+) -> Result<Items<Row>, AllocError>
     ensures ok { IfOk result (IsSortedSlice (group_order query.now) query.now.limit (group_columns query.now) groups) }
 {
     let keys = group_order(alloc, query)?;
@@ -310,7 +314,7 @@ pub fn select_in_order<'a, S: RowSource<'a>>(
 
 // Promise: What a query gives over the rows that it is lent is one of its answers: rows, or a row for each group with exact aggregates, in
 // an order that its ORDER BY allows, and of these the slice of its LIMIT
-// With: select_in_order, select_count, select_local, show, next_kept, all_kept
+// With: select_in_order, select_count, select_extreme, select_local, show, next_kept, all_kept
 /// What a query gives over the rows of its table that a source lends: those whose condition is true, each by the columns that the
 /// query shows, or, of an aggregated query, their groups; in an order that its ORDER BY allows, and of these what its LIMIT leaves. No
 /// row is copied that doesn't go out. Refuses only for want of memory.
