@@ -243,6 +243,9 @@ impl TableRows {
         if let Some(list) = self.select_in_key_order(alloc, query)? {
             return Ok(list);
         }
+        if let Some(list) = self.select_by_first_key(alloc, query)? {
+            return Ok(list);
+        }
         let rows = self.chosen(alloc, &query.filter)?;
         select_from(alloc, query, rows)
     }

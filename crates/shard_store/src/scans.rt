@@ -2,7 +2,7 @@
 
 use crate::stored::StoredTables;
 use crate::table_rows::TableRows;
-use sql_eval::{Join, Query, counts_all};
+use sql_eval::{Join, Query, counts_all, extreme_key};
 
 /// How many rows a query without a condition reads at most: no more than its LIMIT lets through, if any rows will do.
 pub fn rows_by_limit(query: &Query) -> usize {
@@ -23,8 +23,14 @@ impl TableRows {
         }
     }
 
-    // How many rows a query without a condition reads at most: those that its LIMIT lets through, if a walk by keys meets them in its order.
+    // How many rows a query without a condition reads at most: those that its LIMIT lets through, if a walk by keys meets them in its order, and one for MIN or
+    // MAX of a key's column (a key has no NULL).
     fn rows_walked(&self, query: &Query) -> usize {
+        if let Some(key) = extreme_key(query) {
+            if self.stored.direction_to(&query.filter, &key).is_some() {
+                return 1;
+            }
+        }
         match query.limit {
             Some(limit) if !query.is_aggregated() && self.stored.direction(query).is_some() => {
                 limit.offset.saturating_add(limit.count) as usize

@@ -25,8 +25,10 @@ use crate::walk::{RowsBack, RowsBetween, RowsInOrder};
 use key_intervals::{Direction, KeyInterval, walk_direction};
 use row_chunks::Walk;
 use sql_eval::{Query, Table};
+use sql_tree::{Condition, Key};
 use std::alloc::{AllocError, Global};
 use std::marker::Model;
+use std::slice;
 use vt_value::{Items, Row, Value, copy};
 
 /// The rows of a table, each in the slot of its own key: the values of the table's key columns. No two rows have the same key.
@@ -251,6 +253,18 @@ impl StoredTable {
             self.ordinals.as_slice(),
             query.order_by.as_slice(),
         )
+    }
+
+    /// The direction of a walk that meets the rows which a condition keeps in the order of a column, if one does.
+    pub(crate) fn direction_to(
+        &self,
+        condition: &Option<Condition<usize>>,
+        key: &Key<usize>,
+    ) -> Option<Direction>
+        ensures { IfSome result (λ d. IsSorted (row_cmp (key.now ∷ [])) (walked d (filter (is_kept condition.now) (rows_in self.now.slots)))) }
+    {
+        let _slots = self.slots.len();
+        walk_direction(condition, self.ordinals.as_slice(), slice::from_ref(key))
     }
 
     /// The row that has a key, if one has it.
