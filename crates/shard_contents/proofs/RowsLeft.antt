@@ -1,5 +1,5 @@
 -- Rows that are put in order some at a time, and tables that are brought forward by some entries at a time.
-use Rattle.std.proofs.Common.{◌≡◌, ℕ, zero, suc, ◌+◌, ◌-◌, ◌<◌, ◌≤◌, true, List, [], ◌∷◌, ◌++◌, length, take, drop, refl, sym, ap, ◌∙◌, subst, arith, IsPermutation}
+use Rattle.std.proofs.Common.{◌≡◌, ℕ, ◌+◌, ◌-◌, ◌<◌, ◌≤◌, List, [], ◌∷◌, ◌++◌, length, take, drop, sym, ap, ◌∙◌, subst, arith, IsPermutation}
 use Rattle.std.proofs.lemmas.List.{append-nil, append_assoc, drop-drop, length-drop, take-append-drop}
 use Rattle.std.proofs.Math.Seq.{drop-nil}
 use Rattle.std.proofs.lemmas.Grind.{flat_map-append}
@@ -9,7 +9,7 @@ use Rattle.vschema.specs.declared.changes.RowChange.{RowChange}
 use Rattle.vschema.specs.Database.{Database, SameRows, rows_of, all_applied}
 use Rattle.shard_law.proofs.Databases.{length-all_applied}
 use Rattle.shard_contents.specs.inner.StoredLogs.{StoredLog, count_of, stored_since}
-use Rattle.shard_contents.specs.inner.Earlier.{EarlierTable, changes_by, HadRows, AllHadRows, IsCurrentTable}
+use Rattle.shard_contents.specs.inner.Earlier.{EarlierTable, changes_by, HadRows, IsCurrentTable}
 use Rattle.shard_contents.proofs.Bags.{length-same}
 use Rattle.shard_contents.proofs.Commits.{applied-append}
 

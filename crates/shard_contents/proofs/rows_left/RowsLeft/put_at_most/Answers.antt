@@ -1,4 +1,4 @@
-use Rattle.std.proofs.Common.{◌≡◌, ◌+◌, ◌++◌, List, drop, ap, ◌∙◌, subst, IsPermutation}
+use Rattle.std.proofs.Common.{◌+◌, ◌++◌, List, drop, ap, ◌∙◌, subst, IsPermutation}
 use Rattle.std.proofs.lemmas.List.{drop-drop}
 use Rattle.vt_value.specs.Values.{Row}
 use Rattle.vschema.specs.Database.{rows_of}

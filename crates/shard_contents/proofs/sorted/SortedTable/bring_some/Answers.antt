@@ -1,4 +1,4 @@
-use Rattle.std.proofs.Common.{◌≡◌, ◌+◌, ◌<◌, ◌≤◌, ◌++◌, List, length, take, sym, ap, subst, IsPermutation}
+use Rattle.std.proofs.Common.{◌+◌, ◌<◌, ◌≤◌, ◌++◌, List, length, take, sym, ap, subst, IsPermutation}
 use Rattle.std.specs.Prelude.{Option}
 use Rattle.vt_value.specs.Values.{Row}
 use Rattle.vschema.specs.declared.changes.RowChange.{RowChange}

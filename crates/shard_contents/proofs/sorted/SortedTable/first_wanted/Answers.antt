@@ -1,4 +1,4 @@
-use Rattle.std.proofs.Common.{◌++◌, List, subst, sym, ◌∙◌, IsPermutation}
+use Rattle.std.proofs.Common.{◌++◌, List, subst, sym}
 use Rattle.std.proofs.lemmas.Result.{IfOk-weaker}
 use Rattle.std.proofs.lemmas.List.{append-nil}
 use Rattle.std.specs.Prelude.{Option, option_copied}

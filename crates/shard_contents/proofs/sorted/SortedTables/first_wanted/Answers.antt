@@ -1,4 +1,4 @@
-use Rattle.std.proofs.Common.{Option, subst, IsPermutation}
+use Rattle.std.proofs.Common.{Option, subst}
 use Rattle.vt_value.specs.Values.{Row}
 use Rattle.vschema.specs.Database.{rows_of}
 use Rattle.shard_contents.specs.inner.Placed.{AreFirst}
