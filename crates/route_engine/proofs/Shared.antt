@@ -1,4 +1,4 @@
--- A reference to an engine may go to another thread, whatever the world.
+-- A reference to an engine may go to another thread, and a transaction may, whatever the world.
 use denote.RattleType.{RattleType}
 use denote.Param.Send.{IsSend, IsSync, view_send, view_sync, recorded_send, recorded_sync, struct_send, struct_sync, sendable}
 use denote.Struct.Declared.{shape}
@@ -9,6 +9,10 @@ use Rattle.route_engine.specs.contracts.engine.Engine as engine
 use Rattle.route_engine.specs.contracts.engine.Engine.TheInside as engine_inside
 use Rattle.serving.specs.contracts.published.Serving as serving
 use Rattle.serving.proofs.published.Serving.TheSendSync as sent_serving
+use Rattle.serving.specs.contracts.partition.ShardReference as reference
+use Rattle.serving.specs.contracts.partition.Partition as partition
+use Rattle.serving.proofs.partition.ShardReference.TheSendSync as sent_reference
+use Rattle.serving.proofs.partition.Partition.TheSendSync as sent_partition
 use Rattle.vschema.proofs.schema.VSchema.TheSendSync as schema
 use Rattle.vschema.proofs.schema.Place.TheSendSync as place
 use Rattle.shard_calls.specs.World as world
@@ -19,6 +23,17 @@ use Rattle.shard_calls.specs.ShardState as state
 use Rattle.shard_calls.proofs.StatelockTheSendSync as lock
 use Rattle.shard_calls.specs.ShardLawLaw.TheImpl as laws
 use Rattle.shard_calls.proofs.Sent.{state_send, shard_shared}
+use Rattle.shard_calls.specs.contracts.tx.Bound as bound
+use Rattle.shard_calls.specs.contracts.tx.Bound.TheInside as bound_inside
+use Rattle.shard_calls.specs.contracts.tx.OpenTx as open_tx
+use Rattle.shard_calls.specs.contracts.tx.OpenTx.TheInside as open_inside
+use Rattle.shard_calls.specs.contracts.tx.Tx as tx
+use Rattle.shard_calls.specs.contracts.tx.Tx.TheInside as tx_inside
+use Rattle.shard_contents.specs.contracts.pending.Pending as pending
+use Rattle.sql_tree.proofs.Condition.TheLaws.TheKnot as condition
+
+pending_send : IsSend pending.the_row
+pending_send = search (std.crosses, condition.crosses, sendable) depth 60 fits 20000
 
 module _ (W J : RattleType) (w : world.Ghosts W.Denot) (j : naming.Ghosts J.Denot) where
   shard_sent : IsSend (locked.the_row W J w j)
@@ -29,6 +44,30 @@ module _ (W J : RattleType) (w : world.Ghosts W.Denot) (j : naming.Ghosts J.Deno
 
   partitions_sync : IsSync (serving.the_row (locked.the_row W J w j) (seated.ghosts W J w laws.no_dict j laws.no_dict))
   partitions_sync = sent_serving.the_sync (locked.the_row W J w j) (seated.ghosts W J w laws.no_dict j laws.no_dict) shard_sent (shard_shared W J w j)
+
+  reference_send : IsSend (reference.the_row (locked.the_row W J w j) (seated.ghosts W J w laws.no_dict j laws.no_dict))
+  reference_send = sent_reference.the_send (locked.the_row W J w j) (seated.ghosts W J w laws.no_dict j laws.no_dict) shard_sent (shard_shared W J w j)
+
+  partition_send : IsSend (partition.the_row (locked.the_row W J w j) (seated.ghosts W J w laws.no_dict j laws.no_dict))
+  partition_send = sent_partition.the_send (locked.the_row W J w j) (seated.ghosts W J w laws.no_dict j laws.no_dict) shard_sent (shard_shared W J w j)
+
+  bound_send : IsSend (bound.the_row W J w j)
+  bound_send =
+      view_send _ _ _ _ _
+      (recorded_send (bound_inside.the_field W J w j).row _ _ (bound_inside.the_type W J w j).to_one
+      (struct_send (shape (bound_inside.the_type W J w j)) (search sendable, (reference_send, (partition_send, tt)))))
+
+  open_send : IsSend (open_tx.the_row W J w j)
+  open_send =
+      view_send _ _ _ _ _
+      (recorded_send (open_inside.the_field W J w j).row _ _ (open_inside.the_type W J w j).to_one
+      (struct_send (shape (open_inside.the_type W J w j)) (search (bound_send, std.crosses, sendable) depth 60 fits 20000, (pending_send, tt))))
+
+  pub tx_send : IsSend (tx.the_row W J w j)
+  tx_send =
+      view_send _ _ _ _ _
+      (recorded_send (tx_inside.the_field W J w j).row _ _ (tx_inside.the_type W J w j).to_one
+      (struct_send (shape (tx_inside.the_type W J w j)) (search (open_send, std.crosses, sendable) depth 60 fits 20000, tt)))
 
   module _ (G : RattleType) (shared : IsSync G) where
     inside_sync : IsSync (engine_inside.the_row W J G w j)
