@@ -13,4 +13,4 @@ pub use detail::Detail;
 pub use incoming::Incoming;
 pub use outgoing::Outgoing;
 pub use refused::Refused;
-pub use replied::{Answered, Replied};
+pub use replied::Answered;

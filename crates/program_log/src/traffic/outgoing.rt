@@ -3,7 +3,7 @@
 use crate::traffic::detail::Detail;
 use crate::traffic::packets::{PacketPart, Packets};
 use crate::traffic::refused::{Refused, error_code, told_refusal};
-use crate::traffic::replied::Replied;
+use crate::traffic::replied::{Answered, Replied};
 
 /// The first bytes of the payloads that end a reply: an OK, an error, and what ends rows, which is shorter than a row that begins so.
 const OK: u8 = 0x00;
@@ -58,9 +58,9 @@ fn number_at(bytes: &[u8]) -> u64 {
 
 /// What was written to a client.
 #[derive(Drop)]
-pub struct Outgoing<'r> {
+pub struct Outgoing {
     detail: Detail,
-    replied: &'r Replied,
+    replied: Replied,
     packets: Packets,
     next: Next,
     sent: u64,
@@ -68,12 +68,12 @@ pub struct Outgoing<'r> {
     refused: Refused,
 }
 
-impl<'r> Outgoing<'r> {
+impl Outgoing {
     /// Nothing was written yet.
-    pub fn new(detail: Detail, replied: &'r Replied) -> Outgoing<'r> {
+    pub fn new(detail: Detail) -> Outgoing {
         Outgoing {
             detail,
-            replied,
+            replied: Replied::new(),
             packets: Packets::new(),
             next: Next::Reply,
             sent: 0,
@@ -152,6 +152,11 @@ impl<'r> Outgoing<'r> {
             self.refused.count(refusal);
             self.replied.refuse(refusal.number());
         }
+    }
+
+    /// What was replied since this was last asked.
+    pub fn take_answered(&self) -> Answered {
+        self.replied.take()
     }
 
     /// How many bytes were written.

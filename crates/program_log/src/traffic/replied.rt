@@ -9,9 +9,9 @@ pub struct Answered {
     pub refusal: u8,
 }
 
-/// What was replied since this was last asked: what writes to a client and what reads from it share this.
+/// What was replied since this was last asked.
 #[derive(Drop)]
-pub struct Replied {
+pub(crate) struct Replied {
     rows: Cell<u64>,
     refusal: Cell<u8>,
     /// Whether the next packet is the first of a reply, whatever came before.

@@ -1,6 +1,6 @@
 //! What the bytes of a connection tell, and where a VSchema's fault lies.
 use program_log::places::place_of;
-use program_log::traffic::{Answered, Detail, Incoming, Outgoing, Replied};
+use program_log::traffic::{Answered, Detail, Incoming, Outgoing};
 use std::alloc::Global;
 use vt_value::Refusal;
 
@@ -36,12 +36,11 @@ pub(crate) fn statements_come_in_pieces(alloc: Global) -> bool {
 }
 
 fn rows_of(replies: &[&[u8]]) -> Answered {
-    let replied = Replied::new();
-    let mut outgoing = Outgoing::new(Detail::Statements, &replied);
+    let mut outgoing = Outgoing::new(Detail::Statements);
     for reply in replies {
         outgoing.take(false, reply);
     }
-    replied.take()
+    outgoing.take_answered()
 }
 
 /// The rows of result sets are counted, one after the other, and those that a statement has changed.
