@@ -5,20 +5,14 @@ use Rattle.connection_workers.specs.declared.pool.Job.{Job}
 use Rattle.connection_workers.specs.declared.pool.Job.TheVariants.{Serve, Stop}
 use Rattle.connection_workers.specs.Letting as t
 use Rattle.connection_workers.specs.Letting.{HasYielded, GaveAll}
-use Rattle.connection_workers.specs.inner.Letting.{EachWas, HasLetIn, HasServedConnections, HasBegunConnections}
+use Rattle.connection_workers.specs.inner.Letting.{EachWas, HasLetIn, HasBegunConnections}
 
 module _ {X : Type 0} where
-  -- What a worker took so far were connections, each of which was served.
-  pub record Served (P : X → Type 0) (before now : List (Job X)) : Type 0 where
+  -- What a worker took so far were connections, of each of which the conversation was begun.
+  pub record Begun (P : X → Type 0) (before now : List (Job X)) : Type 0 where
     pub taken : List X
     pub own : now ≡ before ++ map Serve taken
     pub each : EachWas P taken
-
-  -- What a worker took so far were connections, each of which was given to its greeter.
-  pub record Begun {G : Type 0} (took : G → X → G → Type 0) (before now : List (Job X)) (first last : G) : Type 0 where
-    pub taken : List X
-    pub own : now ≡ before ++ map Serve taken
-    pub begun : HasYielded took first taken last
 
   -- What an entrance gave so far was put.
   pub record LetIn {E : Type 0} (gives : E → X → E → Type 0) (from now : E) (before after : List (Job X)) : Type 0 where
@@ -35,40 +29,21 @@ module _ {X : Type 0} where
   job_more before now after xs x so is = is ∙ (ap (λ (l : List (Job X)). l ++ Serve x ∷ []) so
       ∙ (append_assoc before (map Serve xs) (Serve x ∷ []) ∙ ap (λ (l : List (Job X)). before ++ l) (sym (map-append Serve xs (x ∷ [])))))
 
-  pub none_served : (P : X → Type 0) (before : List (Job X)) → Served P before before
-  none_served P before = record { taken = []; own = sym (append-nil before); each = tt }
+  pub none_begun : (P : X → Type 0) (before : List (Job X)) → Begun P before before
+  none_begun P before = record { taken = []; own = sym (append-nil before); each = tt }
 
-  pub one_served : (P : X → Type 0) (before now after : List (Job X)) (x : X) → Served P before now → after ≡ now ++ Serve x ∷ [] → P x → Served P before after
-  one_served P before now after x so is last = record {
+  pub one_begun : (P : X → Type 0) (before now after : List (Job X)) (x : X) → Begun P before now → after ≡ now ++ Serve x ∷ [] → P x → Begun P before after
+  one_begun P before now after x so is last = record {
     taken = so.taken ++ x ∷ [];
     own = job_more before now after so.taken x so.own is;
     each = each_more P so.taken x so.each last;
   }
 
-  pub all_served : (P : X → Type 0) (before now after : List (Job X)) → Served P before now → after ≡ now ++ Stop ∷ [] → HasServedConnections before after P
-  all_served P before now after so is = record {
+  pub all_begun : (P : X → Type 0) (before now after : List (Job X)) → Begun P before now → after ≡ now ++ Stop ∷ [] → HasBegunConnections before after P
+  all_begun P before now after so is = record {
     taken = so.taken;
     own = is ∙ ap (λ (l : List (Job X)). l ++ Stop ∷ []) so.own;
     each = so.each;
-  }
-
-  pub none_begun : {G : Type 0} (took : G → X → G → Type 0) (before : List (Job X)) (first : G) → Begun took before before first first
-  none_begun took before first = record { taken = []; own = sym (append-nil before); begun = t.none }
-
-  pub one_begun : {G : Type 0} (took : G → X → G → Type 0) (before now after : List (Job X)) (first mid last : G) (x : X) → Begun took before now first mid
-      → after ≡ now ++ Serve x ∷ [] → took mid x last → Begun took before after first last
-  one_begun took before now after first mid last x so is one = record {
-    taken = so.taken ++ x ∷ [];
-    own = job_more before now after so.taken x so.own is;
-    begun = t.next so.begun one;
-  }
-
-  pub all_begun : {G : Type 0} (took : G → X → G → Type 0) (before now after : List (Job X)) (first last : G) → Begun took before now first last
-      → after ≡ now ++ Stop ∷ [] → HasBegunConnections took before after first last
-  all_begun took before now after first last so is = record {
-    taken = so.taken;
-    own = is ∙ ap (λ (l : List (Job X)). l ++ Stop ∷ []) so.own;
-    begun = so.begun;
   }
 
   pub none_let_in : {E : Type 0} (gives : E → X → E → Type 0) (from : E) (before : List (Job X)) → LetIn gives from from before before

@@ -1,7 +1,7 @@
--- What a source of connections yields, and what is given to a greeter.
+-- What a source of connections yields.
 use Rattle.std.specs.Prelude.{List, [], ◌∷◌, ◌++◌}
 
--- A source yielded these connections, or a greeter was given them, one after the other, and is then so.
+-- A source yielded these connections, one after the other, and is then so.
 pub data HasYielded {E T : Type 0} (gives : E → T → E → Type 0) (from : E) : List T → E → Type 0 where
   none : HasYielded gives from [] from
   next : {given : List T} {mid now : E} {x : T} → HasYielded gives from given mid → gives mid x now → HasYielded gives from (given ++ x ∷ []) now

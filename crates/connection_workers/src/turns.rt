@@ -1,4 +1,4 @@
-//! What a worker does for a connection: begins its conversation, and takes turns at it, whose sockets it waits for.
+//! What a worker takes turns at: conversations, and the set of their sockets.
 ghost use Rattle.std.specs.Prelude.{◌≡◌, ℕ};
 
 use readiness::{Readiness, Told, Wanted};
@@ -31,19 +31,6 @@ pub trait Connected {
 
     /// Ends it: it is over, it has stayed as it is for too long, or it has no place.
     fn end(self, now: u64);
-}
-
-/// Begins conversations, for one worker.
-pub trait Greeter<T, C: Connected, R> {
-    /// It was given this connection, and is then so.
-    ghost took: { Self → T → Self → Type 0 };
-
-    /// The conversation over a connection; `None` if there can be none, and then the connection is over.
-    fn begin(&mut self, rt: &R, connection: T) -> Option<C>
-        ensures took { took self.old connection self.new };
-
-    /// One for another worker, which was given no connection.
-    fn another(&self) -> Self;
 }
 
 /// A set of sockets that workers wait for. That a socket is told is a hint: it may be told early, or twice.

@@ -1,4 +1,4 @@
-//! What threads share: a journal's run, a keyspace's partitions, the queue of connections and the workers that take from it, and a buffer.
+//! What threads share: a journal's run, a keyspace's partitions, the queue of connections, and a buffer.
 
 mod answers;
 mod partitions;
@@ -6,6 +6,5 @@ mod queues;
 mod runs;
 mod snapshots;
 mod waiting;
-mod workers;
 
 pub use answers::answer;

@@ -2,7 +2,7 @@
 ghost use Rattle.std.specs.Prelude.{◌≡◌};
 
 use connection_workers::{
-    Connected, ConnectionSource, Greeter, Sizes, Sockets, Told, Turned, Wanted, run_turns,
+    Connected, ConnectionSource, Sizes, Sockets, Told, Turned, Wanted, run_turns,
 };
 use std::alloc::{AllocError, Global};
 use std::sync::Wait;
@@ -139,34 +139,17 @@ impl Connected for Talk<'_> {
     }
 }
 
-/// Begins conversations, each with as many words as the scene's clients say.
-#[derive(Drop)]
-struct Begins<'c> {
-    client: Client,
-    counts: &'c Counts,
-}
-
-impl<'c, R> Greeter<u64, Talk<'c>, R> for Begins<'c> {
-    ghost took = { λ a x b. Unit {0} };
-
-    fn begin(&mut self, _rt: &R, connection: u64) -> Option<Talk<'c>> {
-        let words = match self.client {
-            Client::Says(words) => words,
-            _ => 1,
-        };
-        Some(Talk {
-            socket: u32::try_from(connection).unwrap_or(0),
-            number: connection,
-            words,
-            counts: self.counts,
-        })
-    }
-
-    fn another(&self) -> Begins<'c> {
-        Begins {
-            client: self.client,
-            counts: self.counts,
-        }
+// The conversation with a client that says as many words as the scene has it.
+fn begin(client: Client, counts: &Counts, number: u64) -> Talk<'_> {
+    let words = match client {
+        Client::Says(words) => words,
+        _ => 1,
+    };
+    Talk {
+        socket: u32::try_from(number).unwrap_or(0),
+        number,
+        words,
+        counts,
     }
 }
 
@@ -321,16 +304,12 @@ fn played<R: Threads + Wait + Sync + Clock>(rt: &R, alloc: Global, scene: Scene)
         places: PLACES,
         workers: scene.workers,
     };
-    let begins = Begins {
-        client,
-        counts: &counts,
-    };
     let ended = run_turns(
         rt,
         alloc,
         sizes,
         &sockets,
-        begins,
+        &|number: u64| begin(client, &counts, number),
         &|talk: Talk<'_>, _now: u64| {
             let mut talk = talk;
             let turned = answer(client, &counts, &mut talk);

@@ -2,16 +2,17 @@
 ghost use Rattle.std.specs.Prelude.{◌≡◌, ◌≤◌, ◌<◌, ◌+◌, [], IfSome, IfNone};
 ghost use Rattle.vtgate_serve.specs.Accepted.{Accepts, AcceptsNoMore};
 
+use crate::arrivals::Arrivals;
 use crate::connection::Connection;
 use crate::events;
-use crate::logins::Logins;
 use crate::ports::QUEUED;
 use crate::progress::ServeProgress;
 use connection_workers::ConnectionSource;
 use journal::{Naming, Opener};
 use log::Log;
 use shard::{ShardLaw, ShardPass, World};
-use std::net::{SocketAddr, TcpListener, TcpStream};
+use std::io::Write;
+use std::net::{Shutdown, SocketAddr, TcpListener, TcpStream};
 use std::sync::Wait;
 use std::thread;
 use std::time::{Clock, Duration, Instant};
@@ -29,6 +30,7 @@ pub struct Acceptor<'l, W: World, J: Naming> {
     accepted: u32,
     last: u32,
     full_since: Option<Instant>,
+    refusing_since: Option<Instant>,
     // Promise: The server has opened at most as many sessions as it has accepted connections, from none on
     ghost opened: { opener ≤ accepted },
 }
@@ -55,12 +57,41 @@ impl<'l, W: World, J: Naming> Acceptor<'l, W, J> {
             accepted: 0,
             last,
             full_since: None,
+            refusing_since: None,
         }
     }
 
     /// How many connections were accepted.
     pub fn accepted(&self) -> u32 {
         self.accepted
+    }
+
+    // The next connection, unless there are too many or it can have no session: then it is closed.
+    fn admit<R: Clock + Log>(
+        &mut self,
+        rt: &R,
+        stream: TcpStream,
+        peer: SocketAddr,
+    ) -> Option<Connection<W, J>>
+        requires room { self.old.accepted < 4294967295 }
+        requires few { self.old.accepted < self.old.last }
+        ensures later { self.old.accepted ≤ self.new.accepted }
+        ensures few { self.new.accepted ≤ self.new.last }
+        ensures last { self.new.last ≡ self.old.last }
+        ensures number { IfSome result (λ c. (c.number ≡ self.new.accepted) × (self.new.accepted ≡ self.old.accepted + 1)) }
+    {
+        let arrivals = &self.progress.arrivals;
+        if !arrivals.may_come(peer.ip().is_loopback()) {
+            refuse(&stream);
+            tell_too_many(rt, arrivals, &mut self.refusing_since);
+            return None;
+        }
+        tell_room(rt, &mut self.refusing_since);
+        tell_free(rt, arrivals, &mut self.full_since);
+        let connection = self.connection(stream, peer)?;
+        arrivals.come();
+        tell_full(rt, arrivals, &mut self.full_since);
+        Some(connection)
     }
 
     // The next connection, unless it can have no session: then it is closed.
@@ -76,9 +107,36 @@ impl<'l, W: World, J: Naming> Acceptor<'l, W, J> {
     }
 }
 
+/// What a client gets in place of a greeting if there are too many connections: a packet with the number 0, whose payload is the error 1040 with its
+/// state and its text.
+const TOO_MANY: &[u8] = b"\x1D\0\0\0\xFF\x10\x04#08004too many connections";
+
+/// Tells a client that there are too many connections. Its socket is new, so there is room for that.
+fn refuse(mut stream: &TcpStream) {
+    let _ = stream.set_nonblocking(true);
+    let _ = stream.write(TOO_MANY);
+    let _ = stream.shutdown(Shutdown::Write);
+}
+
+/// Logs that there are as many connections as there may be, if it has become so.
+fn tell_too_many<R: Clock + Log>(rt: &R, arrivals: &Arrivals, since: &mut Option<Instant>) {
+    if since.is_none() {
+        *since = Instant::now(rt).ok();
+        events::connections_full(rt, arrivals.live());
+    }
+}
+
+/// Logs that there is room for connections again, if there was none.
+fn tell_room<R: Clock + Log>(rt: &R, since: &mut Option<Instant>) {
+    if since.is_some() {
+        events::connections_free(rt, events::since(rt, *since));
+        *since = None;
+    }
+}
+
 /// Logs that the queue of connections is full, if it has become so.
-fn tell_full<R: Clock + Log>(rt: &R, logins: &Logins, full_since: &mut Option<Instant>) {
-    let waiting = logins.waiting();
+fn tell_full<R: Clock + Log>(rt: &R, arrivals: &Arrivals, full_since: &mut Option<Instant>) {
+    let waiting = arrivals.waiting();
     if full_since.is_none() && waiting > QUEUED as u64 {
         *full_since = Instant::now(rt).ok();
         events::queue_full(rt, waiting);
@@ -86,8 +144,8 @@ fn tell_full<R: Clock + Log>(rt: &R, logins: &Logins, full_since: &mut Option<In
 }
 
 /// Logs that the queue has room again, if it was full.
-fn tell_free<R: Clock + Log>(rt: &R, logins: &Logins, full_since: &mut Option<Instant>) {
-    if full_since.is_some() && logins.waiting() <= QUEUED as u64 / 2 {
+fn tell_free<R: Clock + Log>(rt: &R, arrivals: &Arrivals, full_since: &mut Option<Instant>) {
+    if full_since.is_some() && arrivals.waiting() <= QUEUED as u64 / 2 {
         events::queue_free(rt, events::since(rt, *full_since));
         *full_since = None;
     }
@@ -110,10 +168,7 @@ impl<'l, W: World, J: Naming, R: Wait + Clock + Log> ConnectionSource<Connection
             }
             match self.listener.accept() {
                 Ok((stream, peer)) => {
-                    tell_free(rt, &self.progress.logins, &mut self.full_since);
-                    if let Some(connection) = self.connection(stream, peer) {
-                        self.progress.logins.wait();
-                        tell_full(rt, &self.progress.logins, &mut self.full_since);
+                    if let Some(connection) = self.admit(rt, stream, peer) {
                         return Some(connection);
                     }
                 }

@@ -7,23 +7,15 @@ ghost use Rattle.session.specs.conversation.Talk.{IsByInput};
 ghost use Rattle.vtgate_serve.specs.Admitted.{handshake_of};
 
 use crate::admission::Admission;
-use crate::client::{ReplyWriter, RequestReader, begin, end};
-use crate::events;
-use crate::events::Passed;
-use crate::logins::{Login, Logins};
-use crate::statements::statement_log;
 use admin::{Engine, Gate};
 use journal::Naming;
-use log::{Level, Log, log_enabled};
 use mysql_handshake::salt_of;
-use program_log::traffic::{Detail, Incoming, Outgoing, Replied};
-use session::{End, SessionFault, Sink, Source, Writer, serve};
+use session::{Conversation, Device, End, SessionFault, Sink, Source, serve};
 use shard::{ShardPass, World};
 use std::alloc::Global;
 use std::net::{SocketAddr, TcpStream};
 use std::sync::Wait;
 use std::thread::Threads;
-use std::time::{Clock, Instant};
 
 /// A connection that was accepted: its number, its socket, the client's address, and the pass of its session.
 #[derive(Drop)]
@@ -52,11 +44,52 @@ impl<W: World, J: Naming> Connection<W, J> {
             pass,
         }
     }
+
+    /// Its number, its socket, the client's address and the pass.
+    pub fn into_parts(self) -> (u32, TcpStream, SocketAddr, ShardPass<W, J>)
+        ensures number { result.0 ≡ self.number }
+        ensures session { IsSome result.3.session }
+    {
+        let Connection {
+            number,
+            stream,
+            peer,
+            pass,
+            ..
+        } = self;
+        (number, stream, peer, pass)
+    }
+}
+
+/// The salt of the connection with the number, of which and of the words' nonce it is made.
+fn salt_for(admission: &Admission<'_>, number: u32) -> [u8; 20]
+    ensures { (record { access = admission.now.access; salt = result; id = number }) ≡ handshake_of admission.now.asked.now number }
+{
+    salt_of(admission.nonce(), u64::from(number))
+}
+
+/// The conversation of the connection with the number, over a device: it greets its client by the salt that the nonce of the words and the number
+/// make, and lets in whom the words name. If there is no memory for it, pass and device are given back.
+pub fn begin_connection<W: World + Send + Sync, J: Naming + Send + Sync, D: Device>(
+    alloc: Global,
+    admission: &Admission<'_>,
+    pass: ShardPass<W, J>,
+    number: u32,
+    device: D,
+) -> Result<Conversation<W, J, D>, (ShardPass<W, J>, D)>
+    requires session { IsSome pass.session }
+    ensures handshake { IfOk result (λ c. c.handshake ≡ handshake_of admission.now.asked.now number) }
+    ensures pass { IfOk result (λ c. (c.pass_then ≡ pass) × (c.pass ≡ pass)) }
+    ensures device { IfOk result (λ c. (c.device_then ≡ device) × (c.device ≡ device)) }
+{
+    let salt = salt_for(admission, number);
+    Conversation::begin(alloc, &admission.access, &salt, number, pass, device)
 }
 
 // Promise: A connection is greeted by the salt of its number and of the words' nonce, lets in the user and the password of the words and
 // nobody else, and its bytes are then the conversation, over any device
-// Clauses: talk, alone, read, memory, write
+// With: begin_connection
+// Clauses: talk, alone, read, memory, write, handshake, pass, device
 /// Serves the connection with the number over these devices until it ends: greets its client by the salt that the nonce of the words and the
 /// number make, and lets in whom the words name. The clauses tell what became of the pass and of both devices, which are handed over one by one.
 pub fn serve_connection<
@@ -85,87 +118,7 @@ pub fn serve_connection<
     ensures source_count { I.failures source.new ≡ read_failures_after result (I.failures source.old) }
     ensures sink_count { O.failures sink.new ≡ write_failures_after result (O.failures sink.old) }
 {
-    let salt = salt_of(admission.nonce(), u64::from(number));
+    let salt = salt_for(admission, number);
     let access = &admission.access;
     serve(rt, alloc, engine, pass, access, &salt, number, source, sink)
-}
-
-// How much is kept of a connection, by what is logged.
-fn detail_of<R: Log>(rt: &R) -> Detail {
-    if log_enabled!(rt; Level::Debug) {
-        Detail::Statements
-    } else if log_enabled!(rt; Level::Info) {
-        Detail::Counts
-    } else {
-        Detail::Bytes
-    }
-}
-
-/// Serves the connection until it ends, and closes it.
-pub fn serve_socket<
-    W: World + Send + Sync,
-    J: Naming + Send + Sync,
-    G: Gate,
-    R: Threads + Wait + Sync + Clock + Log,
->(
-    rt: &R,
-    alloc: Global,
-    engine: &Engine<W, J, G>,
-    admission: &Admission<'_>,
-    logins: &Logins,
-    connection: Connection<W, J>,
-) {
-    let Connection {
-        number,
-        stream,
-        peer,
-        mut pass,
-        ..
-    } = connection;
-    begin(&stream);
-    let start = Instant::now(rt).ok();
-    let detail = detail_of(rt);
-    let replied = Replied::new();
-    let login = Login::begin(rt, logins);
-    let mut source = RequestReader {
-        rt,
-        stream: &stream,
-        login: &login,
-        failures: 0,
-        incoming: Incoming::new(alloc, detail),
-        statements: statement_log(alloc, engine, number, &replied),
-        silence: None,
-    };
-    let mut sink = ReplyWriter {
-        stream: &stream,
-        login: &login,
-        sink: Writer::new(&stream),
-        outgoing: Outgoing::new(detail, &replied),
-    };
-    let served = serve_connection(
-        rt,
-        alloc,
-        engine,
-        admission,
-        &mut pass,
-        number,
-        &mut source,
-        &mut sink,
-    );
-    login.end();
-    source.tell_last();
-    let passed = Passed {
-        number,
-        peer,
-        served: &served,
-        incoming: &source.incoming,
-        outgoing: &sink.outgoing,
-        silence: source.silence,
-        time: events::since(rt, start),
-    };
-    events::ended(rt, passed);
-    // Who has said nothing for too long has no reply to wait for.
-    if !matches!(served, Err(SessionFault::Read)) {
-        end(rt, &stream);
-    }
 }

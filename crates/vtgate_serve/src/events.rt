@@ -197,7 +197,7 @@ pub fn unbound<R: Log, E: Display>(rt: &R, port: &'static str, address: &str, re
     error!(rt; port = port, address = address, reason:% = reason; "bind");
 }
 
-/// The queue of connections is full: the one that was accepted waits until it isn't.
+/// The queue of connections is full, since no worker comes to taking them: the one that was accepted waits until it isn't.
 pub fn queue_full<R: Log>(rt: &R, waiting: u64) {
     warn!(rt; waiting = waiting; "queue_full");
 }
@@ -205,6 +205,21 @@ pub fn queue_full<R: Log>(rt: &R, waiting: u64) {
 /// The queue of connections has room again.
 pub fn queue_free<R: Log>(rt: &R, full: Seconds) {
     info!(rt; seconds:% = full; "queue_free");
+}
+
+/// There are as many connections as there may be: the next one is refused.
+pub fn connections_full<R: Log>(rt: &R, connections: u64) {
+    warn!(rt; connections = connections; "connections_full");
+}
+
+/// There is room for connections again.
+pub fn connections_free<R: Log>(rt: &R, full: Seconds) {
+    info!(rt; seconds:% = full; "connections_free");
+}
+
+/// As many statements may wait for a cutover as there are workers, which can hold up all others.
+pub fn workers_may_wait<R: Log>(rt: &R, workers: u32, buffer: u32) {
+    warn!(rt; workers = workers, buffer = buffer; "workers_may_wait");
 }
 
 /// An admin line was answered, while so many statements waited for a cutover.
@@ -301,7 +316,7 @@ pub struct Passed<'p> {
     pub peer: SocketAddr,
     pub served: &'p Result<End, SessionFault>,
     pub incoming: &'p Incoming,
-    pub outgoing: &'p Outgoing<'p>,
+    pub outgoing: &'p Outgoing,
     /// How long the client had said nothing if that ended it.
     pub silence: Option<Duration>,
     pub time: Seconds,

@@ -12,14 +12,17 @@ ghost use Rattle.vtgate_serve.specs.Served.{listening_text};
 use crate::acceptor::Acceptor;
 use crate::admin_port::serve_admin;
 use crate::admission::{Admission, admission_of};
-use crate::connection::{Connection, serve_socket};
+use crate::arrivals::descriptors;
+use crate::connection::Connection;
 use crate::events::Start;
 use crate::progress::ServeProgress;
 use crate::server::Server;
 use crate::setup::{FAILURE, RunFault, ServeArgs};
+use crate::turns::Talk;
+use crate::welcome::welcome;
 use crate::{census, events};
 use admin::{Administrator, Engine, Gate, widest_limits};
-use connection_workers::run;
+use connection_workers::{NotRun, Readiness, Sizes, run_turns};
 use journal::{Naming, Opener};
 use log::Log;
 use session::Sink;
@@ -119,7 +122,38 @@ fn tell_listening<O: Sink>(output: &mut O) -> Result<(), RunFault>
     }
 }
 
-// Serves the connections that the acceptor accepts, and returns how that ended.
+// Serves the connections that the acceptor accepts, until the last one is over.
+fn run_workers<
+    's,
+    W: World + Send + Sync,
+    J: Naming + Send + Sync,
+    G: Gate,
+    R: Threads + Wait + Sync + Clock + Log,
+>(
+    server: &'s Server<'s, W, J, G, R>,
+    acceptor: Acceptor<'s, W, J>,
+) -> Result<Acceptor<'s, W, J>, NotRun> {
+    let Ok(sockets) = Readiness::new() else {
+        return Err(NotRun::NoThread);
+    };
+    let asked = server.admission.asked;
+    let sizes = Sizes {
+        queue: QUEUED,
+        places: descriptors(),
+        workers: asked.workers,
+    };
+    run_turns(
+        server.rt,
+        server.alloc,
+        sizes,
+        &sockets,
+        &move |connection: Connection<W, J>| welcome(server, connection),
+        &move |talk: Talk<'_, W, J, R>, now: u64| talk.turned(server, now),
+        acceptor,
+    )
+}
+
+// Serves the connections that the acceptor accepts, and logs how that ended.
 fn serve_clients<
     W: World + Send + Sync,
     J: Naming + Send + Sync,
@@ -133,17 +167,14 @@ fn serve_clients<
     progress: &ServeProgress,
     acceptor: Acceptor<'_, W, J>,
 ) {
-    let asked = admission.asked;
-    let served = run(
+    let server = Server {
         rt,
         alloc,
-        QUEUED,
-        asked.workers,
-        &move |connection: Connection<W, J>| {
-            serve_socket(rt, alloc, engine, admission, &progress.logins, connection)
-        },
-        acceptor,
-    );
+        engine,
+        admission,
+        progress,
+    };
+    let served = run_workers(&server, acceptor);
     match &served {
         Ok(acceptor) => events::ended_all(rt, acceptor.accepted()),
         Err(why) => events::not_run(rt, why),
@@ -275,6 +306,9 @@ fn tell_started<W: World + Send + Sync, J: Naming + Send + Sync, G: Gate, R: Log
         entries: limits.stored,
     };
     events::started(rt, start);
+    if asked.buffer >= asked.workers {
+        events::workers_may_wait(rt, asked.workers, asked.buffer);
+    }
 }
 
 // Tells that clients can connect, if all threads can be started.
@@ -336,7 +370,7 @@ pub fn serve_router<
         return Err(RunFault::Failed);
     };
     begin_serving(rt, asked, engine, output)?;
-    let progress = ServeProgress::new(asked.workers);
+    let progress = ServeProgress::new();
     let last = last_connection(asked);
     let acceptor = Acceptor::new(&config.ports.clients, &progress, opener, pass, last);
     let server = Server {

@@ -1,6 +1,6 @@
 //! How far serving is, which its threads tell one another.
 
-use crate::logins::Logins;
+use crate::arrivals::{Arrivals, descriptors};
 use std::sync::Wait;
 use std::sync::atomic::{AtomicU64, Ordering};
 use std::thread;
@@ -27,7 +27,7 @@ const LOOKS: u32 = 100;
 
 const BETWEEN_LOOKS: u64 = 50;
 
-/// How far serving is, and the logins that are under way.
+/// How far serving is, and the connections that there are.
 #[derive(Drop)]
 pub struct ServeProgress {
     stage: AtomicU64,
@@ -35,17 +35,17 @@ pub struct ServeProgress {
     switching: AtomicU64,
     /// 1 if a thread looks at cutovers.
     has_watcher: AtomicU64,
-    pub logins: Logins,
+    pub arrivals: Arrivals,
 }
 
 impl ServeProgress {
-    /// Nothing was done yet, for so many workers.
-    pub fn new(workers: u32) -> ServeProgress {
+    /// Nothing was done yet.
+    pub fn new() -> ServeProgress {
         ServeProgress {
             stage: AtomicU64::new(UNDER_WAY),
             switching: AtomicU64::new(NO_SWITCH),
             has_watcher: AtomicU64::new(0),
-            logins: Logins::new(workers),
+            arrivals: Arrivals::new(descriptors()),
         }
     }
 

@@ -1,33 +1,19 @@
 //! What is logged of each statement: its plan, and how it was answered.
 
+use crate::client::Traffic;
 use crate::events;
 use crate::events::Statement;
 use admin::{Engine, Gate};
 use journal::Naming;
 use keyrange::KeyRange;
 use log::Log;
-use program_log::traffic::{Incoming, Replied};
 use serving::Serving;
 use shard::{Shard, World};
 use shard_run::opening::sharded_keyspace;
 use std::alloc::{AllocError, Global};
 use std::str;
-use std::time::{Clock, Instant};
-use vschema::VSchema;
+use std::time::Clock;
 use vtgate_lines::plan_line;
-
-/// Logs the statements of a connection.
-#[derive(Drop)]
-pub struct StatementLog<'s, W: World, J: Naming> {
-    alloc: Global,
-    schema: &'s VSchema,
-    /// The partitions of the sharded keyspace, if there is one.
-    serving: Option<&'s Serving<Shard<W, J>>>,
-    connection: u32,
-    replied: &'s Replied,
-    /// When the last bytes of a client came.
-    start: Option<Instant>,
-}
 
 /// The partitions of the sharded keyspace, if there is one.
 pub fn sharded_partitions<W: World + Send + Sync, J: Naming + Send + Sync, G: Gate>(
@@ -39,66 +25,50 @@ pub fn sharded_partitions<W: World + Send + Sync, J: Naming + Send + Sync, G: Ga
     }
 }
 
-/// The log of a connection's statements. None came yet.
-pub fn statement_log<'s, W: World + Send + Sync, J: Naming + Send + Sync, G: Gate>(
+// The ranges of the sharded keyspace, if there is one.
+fn ranges_of<W: World + Send + Sync, J: Naming + Send + Sync, G: Gate>(
     alloc: Global,
-    engine: &'s Engine<W, J, G>,
-    connection: u32,
-    replied: &'s Replied,
-) -> StatementLog<'s, W, J> {
-    StatementLog {
-        alloc,
-        schema: engine.schema(),
-        serving: sharded_partitions(engine),
-        connection,
-        replied,
-        start: None,
+    engine: &Engine<W, J, G>,
+) -> Result<Vec<KeyRange>, AllocError> {
+    let mut ranges = Vec::new(alloc);
+    if let Some(serving) = sharded_partitions(engine) {
+        for part in serving.current().parts() {
+            ranges.push(part.range())?;
+        }
     }
+    Ok(ranges)
 }
 
-impl<W: World, J: Naming> StatementLog<'_, W, J> {
-    // The ranges of the sharded keyspace, if there is one.
-    fn ranges(&self) -> Result<Vec<KeyRange>, AllocError> {
-        let mut ranges = Vec::new(self.alloc);
-        if let Some(serving) = self.serving {
-            for part in serving.current().parts() {
-                ranges.push(part.range())?;
-            }
-        }
-        Ok(ranges)
+/// Logs the statements of a connection that came whole and were answered since this was last called.
+pub fn tell_statements<W: World + Send + Sync, J: Naming + Send + Sync, G: Gate, R: Clock + Log>(
+    rt: &R,
+    alloc: Global,
+    engine: &Engine<W, J, G>,
+    connection: u32,
+    traffic: &mut Traffic,
+) {
+    let answered = traffic.outgoing.take_answered();
+    let texts = traffic.incoming.take_texts();
+    if texts.is_empty() {
+        return;
     }
-
-    // The line of a statement's plan over the partition that serves now; empty if it has none.
-    fn plan(&self, ranges: &[KeyRange], text: &[u8]) -> Vec<u8> {
-        match plan_line(self.alloc, self.schema, ranges, text) {
+    let Ok(ranges) = ranges_of(alloc, engine) else {
+        return;
+    };
+    let time = events::time_since(rt, traffic.start);
+    for text in texts.as_slice() {
+        // The plan over the partition that serves now; empty if the statement has none.
+        let plan = match plan_line(alloc, engine.schema(), &ranges, text) {
             Ok(line) => line,
-            Err(_) => Vec::new(self.alloc),
-        }
-    }
-
-    /// Logs the statements that came whole and were answered since this was last called.
-    pub fn tell<R: Clock + Log>(&self, rt: &R, incoming: &mut Incoming) {
-        let answered = self.replied.take();
-        let texts = incoming.take_texts();
-        let Ok(ranges) = self.ranges() else {
-            return;
+            Err(_) => Vec::new(alloc),
         };
-        let time = events::time_since(rt, self.start);
-        for text in texts.as_slice() {
-            let plan = self.plan(&ranges, text);
-            let executed = Statement {
-                connection: self.connection,
-                together: texts.len() as u64,
-                plan: str::from_utf8(&plan).unwrap_or(""),
-                answered,
-                time,
-            };
-            events::executed(rt, executed);
-        }
-    }
-
-    /// Says that bytes came, whose statements are answered from now on.
-    pub fn begin<R: Clock>(&mut self, rt: &R) {
-        self.start = Instant::now(rt).ok();
+        let executed = Statement {
+            connection,
+            together: texts.len() as u64,
+            plan: str::from_utf8(&plan).unwrap_or(""),
+            answered,
+            time,
+        };
+        events::executed(rt, executed);
     }
 }

@@ -1,5 +1,5 @@
 //! The answer of a case.
-use crate::threads::{partitions, queues, runs, snapshots, waiting, workers};
+use crate::threads::{partitions, queues, runs, snapshots, waiting};
 use std::alloc::Global;
 use std::sync::Wait;
 use std::thread::Threads;
@@ -17,18 +17,6 @@ pub fn answer<R: Threads + Wait + Sync>(
             told.put_went(partitions::current_is_opening_partition(alloc))
         }
         "each_is_taken_once" => told.put_went(queues::each_is_taken_once(rt, alloc)),
-        "each_connection_is_served_once" => {
-            told.put_went(Ok(workers::each_connection_is_served_once(rt, alloc)))
-        }
-        "sleeping_workers_are_woken" => {
-            told.put_went(Ok(workers::sleeping_workers_are_woken(rt, alloc)))
-        }
-        "all_workers_serve_at_once" => {
-            told.put_went(Ok(workers::all_workers_serve_at_once(rt, alloc)))
-        }
-        "full_queue_waits_for_a_worker" => {
-            told.put_went(Ok(workers::full_queue_waits_for_a_worker(rt, alloc)))
-        }
         "four_threads_append_to_one_run" => {
             told.put_went(runs::four_threads_append_to_one_run(rt, alloc))
         }

@@ -1,7 +1,7 @@
 use Rattle.std.proofs.Common.{◌≡◌, ◌++◌, replicate, true}
 use Rattle.crossbeam_queue.specs.Passes.{view, IsPassOf}
 use Rattle.connection_workers.specs.declared.pool.Job.TheVariants.{Stop}
-use Rattle.connection_workers.proofs.pool.stop.Given as goal
+use Rattle.connection_workers.proofs.pool.stop_all.Given as goal
 
 -- so many stops were put
 abbrev pub invariant-loop : goal.invariant-loop

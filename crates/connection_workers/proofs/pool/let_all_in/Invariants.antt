@@ -1,7 +1,7 @@
 use Rattle.std.proofs.Common.{◌≡◌, true}
 use Rattle.crossbeam_queue.specs.Passes.{view, IsPassOf}
 use Rattle.connection_workers.proofs.Letting.{LetIn}
-use Rattle.connection_workers.proofs.pool.let_in.Given as goal
+use Rattle.connection_workers.proofs.pool.let_all_in.Given as goal
 
 -- what the entrance gave so far was put
 abbrev pub invariant-loop : goal.invariant-loop

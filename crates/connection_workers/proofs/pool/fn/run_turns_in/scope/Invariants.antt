@@ -1,6 +1,6 @@
 use Rattle.std.proofs.Common.{◌≡◌, ◌+◌, true}
 use Rattle.crossbeam_queue.specs.Passes.{view, IsPassOf}
-use Rattle.connection_workers.proofs.pool.fn.run_in.scope.Given as goal
+use Rattle.connection_workers.proofs.pool.fn.run_turns_in.scope.Given as goal
 
 -- the pass may put, and so many others take
 abbrev pub invariant-loop-started : goal.invariant-loop-started

@@ -1,6 +1,6 @@
 use Rattle.std.proofs.Common.{rules, ap}
 use Rattle.connection_workers.proofs.Letting.{none_let_in, one_let_in}
-use Rattle.connection_workers.proofs.pool.let_in.Goals as goal
+use Rattle.connection_workers.proofs.pool.let_all_in.Goals as goal
 
 pub loop-init : goal.loop-init
 loop-init g c = record { puts = c.requires.puts; of = c.requires.of; let_in = none_let_in _ _ _; next = search rules }

@@ -1,9 +1,0 @@
-use Rattle.std.proofs.Common.{◌≡◌}
-use Rattle.crossbeam_queue.specs.Passes.{view, IsPassOf}
-use Rattle.connection_workers.proofs.pool.WorkerPool.take.Given as goal
-
--- nothing was taken
-abbrev pub invariant-loop : goal.invariant-loop
-invariant-loop g l =
-    (view l.pass ≡ view l.fn.pass) × IsPassOf l.self.queue l.pass
-    × (goal.iterator-loop g).can_next l.iterator' × (goal.iterator-loop g).is_finite l.iterator'
