@@ -35,9 +35,9 @@ def stage2(password):
 class Router:
     """`vtgate serve` over the tables of examples/shop.json, until the `with` ends."""
 
-    def __init__(self, program, password="", workers=4, connections=0, descriptors=1024):
+    def __init__(self, program, password="", workers=4, buffer=8, connections=0, descriptors=1024, host="127.0.0.1"):
         self.port, self.admin_port = free_ports(2)
-        words = ["serve", SHARDS, f"127.0.0.1:{self.port}", f"127.0.0.1:{self.admin_port}", str(workers), "8", str(connections)]
+        words = ["serve", SHARDS, f"{host}:{self.port}", f"127.0.0.1:{self.admin_port}", str(workers), str(buffer), str(connections)]
         self.process = subprocess.Popen(
             [program, *words, USER, stage2(password), "a nonce of the tests"],
             stdin=SCHEMA.open(),

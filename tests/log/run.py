@@ -7,6 +7,7 @@ import json
 import os
 import pathlib
 import re
+import resource
 import socket
 import struct
 import subprocess
@@ -75,14 +76,14 @@ def in_order(lines):
 class Served:
     """`vtgate serve` with a log; `lines` are those that it wrote once it has ended."""
 
-    def __init__(self, program, level, workers=2, connections=0, shards=SHARDS, schema=SCHEMA, port=None):
+    def __init__(self, program, level, workers=2, connections=0, shards=SHARDS, schema=SCHEMA, port=None, limits=None):
         self.port, self.admin_port = free_ports(2)
         self.port = port or self.port
         words = ["serve", shards, f"127.0.0.1:{self.port}", f"127.0.0.1:{self.admin_port}", str(workers), "8", str(connections), USER, "-", "a nonce"]
         environment = {name: value for name, value in os.environ.items() if name != "VTGATE_LOG"}
         if level is not None:
             environment["VTGATE_LOG"] = level
-        self.process = subprocess.Popen([program, *words], stdin=open(schema), stdout=subprocess.PIPE, stderr=subprocess.PIPE, env=environment, text=True)
+        self.process = subprocess.Popen([program, *words], stdin=open(schema), stdout=subprocess.PIPE, stderr=subprocess.PIPE, env=environment, text=True, preexec_fn=limits)
         self.said = self.process.stdout.readline()
 
     address = property(lambda self: ("127.0.0.1", self.port))
@@ -183,17 +184,44 @@ def silence(program):
 
 @case
 def full_queue(program):
-    """More clients than the queue has places, while one worker serves another."""
-    server = Served(program, "warn", workers=1)
-    waiting = [socket.create_connection(server.address, 60) for _ in range(70)]
-    time.sleep(0.5)
-    for each in waiting:
-        each.close()
+    """More clients than the queue has places, while the one worker is held by a write that waits for a cutover."""
+    server = Served(program, "warn", workers=1, shards="-80,80-")
+    with Client(server.address) as client:
+        client.login(USER.encode(), b"", database=b"shop")
+        server.admin("create -80 -40,40-80", "step", "step", "step", "advance")
+        client.command(QUERY, b"INSERT INTO t (id, c) VALUES (2, 7)")
+        time.sleep(0.5)
+        waiting = [socket.create_connection(server.address, 60) for _ in range(70)]
+        time.sleep(0.5)
+        server.admin("resume")
+        check("the write is done", client.read()[:1], b"\0")
+        for each in waiting:
+            each.close()
     time.sleep(0.5)
     server.process.terminate()
     lines = told(server.end()[0])
     check("it is full once", [fields["waiting"] for fields in of(lines, "warn queue_full")], ["65"])
     check("nothing below warn", {name.split()[0] for name, _ in lines}, {"warn"})
+
+
+@case
+def too_many_connections(program):
+    """More clients than there are descriptors: a line once they are refused, and one once there is room."""
+    descriptors = 64
+    server = Served(program, "info", workers=8, limits=lambda: resource.setrlimit(resource.RLIMIT_NOFILE, (descriptors, descriptors)))
+    clients = [socket.create_connection(server.address, 60) for _ in range(descriptors - 32)]
+    for _ in range(3):
+        with socket.create_connection(server.address, 60) as refused:
+            check("it is refused", refused.recv(100)[4:7], b"\xff\x10\x04")
+    for each in clients[:8]:
+        each.close()
+    time.sleep(1)
+    talk(server, USER)
+    server.process.terminate()
+    lines = told(server.end()[0])
+    check("it is told once", [fields["connections"] for fields in of(lines, "warn connections_full")], [str(descriptors - 32)])
+    check("and that there is room", len(of(lines, "info connections_free")), 1)
+    check("the buffer may hold all workers", of(lines, "warn workers_may_wait"), [{"workers": "8", "buffer": "8"}])
 
 
 @case
