@@ -1,5 +1,5 @@
 -- Rows that are walked by their keys, and the order of sort keys.
-use Rattle.std.specs.Prelude.{ℕ, List, reverse}
+use Rattle.std.specs.Prelude.{ℕ, List}
 use Rattle.std.specs.declared.cmp.Ordering.{Ordering}
 use Rattle.vt_value.specs.Values.{Row}
 use Rattle.sql_tree.specs.declared.Key.{Key}
@@ -11,8 +11,3 @@ use Rattle.key_intervals.specs.declared.direction.Direction.TheVariants.{Forward
 abbrev pub walked_cmp : Direction → List (Key ℕ) → Row → Row → Ordering
 walked_cmp Forward keys a b = row_cmp keys a b
 walked_cmp Backward keys a b = row_cmp keys b a
-
--- rows in the order of their keys, as the walk meets them
-abbrev pub walked : Direction → List Row → List Row
-walked Forward rows = rows
-walked Backward rows = reverse rows

@@ -1,2 +1,3 @@
 pub mod Turned
 pub mod KeysOf
+pub mod Walks

@@ -25,7 +25,8 @@ use Rattle.sql_eval.proofs.SameAnswers.{same_answers}
 use Rattle.sql_eval.proofs.Sums.{all_push}
 use Rattle.key_intervals.specs.declared.direction.Direction.{Direction}
 use Rattle.key_intervals.specs.declared.direction.Direction.TheVariants.{Forward, Backward}
-use Rattle.key_intervals.specs.Directions.{walked_cmp, walked}
+use Rattle.key_intervals.specs.Directions.{walked_cmp}
+use Rattle.key_intervals.specs.inner.Walks.{walked}
 use Rattle.key_intervals.proofs.KeyLemmas.{le_trans}
 use Rattle.shard_store.specs.declared.key.RowKey.{RowKey}
 use Rattle.shard_store.specs.Keys.{row_key_cmp}

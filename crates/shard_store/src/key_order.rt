@@ -6,7 +6,7 @@ ghost use Rattle.sql_eval.specs.Conditions.{is_kept};
 ghost use Rattle.sql_eval.specs.Orders.{row_cmp};
 ghost use Rattle.sql_eval.specs.Queries.{IsAnswer};
 ghost use Rattle.sql_eval.specs.Extremes.{IsExtreme};
-ghost use Rattle.key_intervals.specs.Directions.{walked};
+ghost use Rattle.key_intervals.specs.inner.Walks.{walked};
 ghost use Rattle.shard_store.specs.Slots.{rows_in};
 
 use crate::table::StoredTable;

@@ -9,7 +9,7 @@ ghost use Rattle.sql_eval.specs.Database.{same_row, without};
 ghost use Rattle.sql_eval.specs.Orders.{row_cmp};
 ghost use Rattle.sql_eval.specs.Conditions.{is_kept};
 ghost use Rattle.key_intervals.specs.Intervals.{is_below};
-ghost use Rattle.key_intervals.specs.Directions.{walked};
+ghost use Rattle.key_intervals.specs.inner.Walks.{walked};
 ghost use Rattle.shard_store.specs.Keys.{row_key_cmp};
 ghost use Rattle.shard_store.specs.Slots.{rows_in, slot_at, row_at, slots_from, with_slot, without_slot, is_before};
 ghost use Rattle.shard_store.specs.Tables.{key_at, has_key, begins_with, IsAtItsKey};

@@ -6,7 +6,7 @@ use Rattle.vt_value.specs.Values.{value_cmp}
 use Rattle.sql_tree.specs.declared.Key.{Key}
 use Rattle.sql_eval.specs.Orders.{row_cmp}
 use Rattle.sql_eval.specs.Conditions.{is_kept}
-use Rattle.key_intervals.specs.Directions.{walked}
+use Rattle.key_intervals.specs.inner.Walks.{walked}
 use Rattle.shard_store.specs.Slots.{rows_in}
 use Rattle.shard_store.specs.Tables.{TableView, key_at}
 use Rattle.shard_store.proofs.BackWalks.{some_weaker, walk_sorted}
