@@ -11,8 +11,8 @@ import measure  # noqa: E402
 ITEMS = 500_000
 # What may be held of each item of the statement, besides the reply: its tree, its column's definition, its place.
 BYTES_OF_AN_ITEM = 1000
-# What may be held of each byte of the reply: itself, and what a list that grows has to spare.
-BYTES_OF_A_BYTE = 1.5
+# What may be held of each byte of the reply: itself as it is encoded, what its client hasn't taken yet, and what a list that grows has to spare.
+BYTES_OF_A_BYTE = 2.25
 
 
 def statements():
