@@ -39,10 +39,25 @@ module _ (W J D : RattleType) (w : world.Ghosts W.Denot) (j : naming.Ghosts J.De
   inside_send : IsSend (inside.the_row W J D w j d)
   inside_send =
       recorded_send (inside.the_field W J D w j d).row _ _ (inside.the_type W J D w j d).to_one
-      (struct_send (shape (inside.the_type W J D w j d))
-      (core_send W J w j, (pass_send W J w j, (search (sent, sendable), (search (std.crosses, sendable) depth 60 fits 20000,
-      (search (std.crosses, sendable) depth 60 fits 20000, (search (std.crosses, sendable) depth 60 fits 20000,
-      (search (std.crosses, sendable) depth 60 fits 20000, (search (std.crosses, sendable) depth 60 fits 20000, tt)))))))))
+      (struct_send (shape (inside.the_type W J D w j d)) (
+        core_send W J w j,
+        (
+          pass_send W J w j,
+          (
+            search (sent, sendable),
+            (
+              search (std.crosses, sendable) depth 60 fits 20000,
+              (
+                search (std.crosses, sendable) depth 60 fits 20000,
+                (
+                  search (std.crosses, sendable) depth 60 fits 20000,
+                  (search (std.crosses, sendable) depth 60 fits 20000, (search (std.crosses, sendable) depth 60 fits 20000, tt)),
+                ),
+              ),
+            ),
+          ),
+        ),
+      ))
 
   pub conversation_send : IsSend (conversation.the_row W J D w j d)
   conversation_send = view_send _ _ _ _ _ inside_send
