@@ -1,0 +1,62 @@
+-- Values as COM_STMT_EXECUTE of the MySQL client/server protocol has them: how the bytes of each type spell a value.
+use Rattle.std.specs.Prelude.{ℕ, ℤ, pos, negsuc, ◌+◌, ◌-◌, ◌<◌, ◌==◌, ◌||◌, ◌&&◌, Bool, true, false, nat_lt, nat_le, List, [], Option, Some, None, if◌then◌else◌}
+use Rattle.vt_value.specs.declared.value.Value.{Value}
+use Rattle.vt_value.specs.declared.value.Value.TheVariants.{Null, Int, Bytes}
+use Rattle.mysql_packet.specs.Numbers.{little_endian, length_encoded_string}
+use Rattle.statement_values.specs.declared.ParameterType.{ParameterType}
+use Rattle.statement_values.specs.declared.ParameterType.TheVariants as p
+use Rattle.statement_values.specs.declared.Width.{Width}
+use Rattle.statement_values.specs.declared.Width.TheVariants as w
+
+-- VARCHAR, the four BLOBs, VAR_STRING, STRING
+abbrev pub is_text_type : ℕ → Bool
+is_text_type t = (t == 0x0F) || nat_le 0xF9 t && nat_le t 0xFE
+
+-- TINY, SHORT, LONG, INT24 which is sent as LONG is, LONGLONG
+abbrev pub width_named : ℕ → Option Width
+width_named t =
+    if t == 0x01 then Some w.One
+    else if t == 0x02 then Some w.Two
+    else if (t == 0x03) || (t == 0x09) then Some w.Four
+    else if t == 0x08 then Some w.Eight
+    else None
+
+-- The type that two bytes name: its number, and 0x80 if a number has no sign.
+abbrev pub number_type : Option Width → ℕ → Option ParameterType
+number_type None flags = None
+number_type (Some width) flags = Some (p.Number width (nat_le 0x80 flags))
+
+abbrev pub type_named : ℕ → ℕ → Option ParameterType
+type_named t flags =
+    if t == 0x06 then Some p.Null
+    else if is_text_type t then Some p.Text
+    else number_type (width_named t) flags
+
+-- how many bytes a number has
+abbrev pub width_of : Width → ℕ
+width_of w.One = 1
+width_of w.Two = 2
+width_of w.Four = 4
+width_of w.Eight = 8
+
+-- a number of so many bytes by its two's complement, if it has a sign
+abbrev pub signed_of : ℕ → ℕ → ℤ
+signed_of half n = if nat_lt n half then pos n else negsuc (half + half - n - 1)
+
+abbrev pub number_of : Bool → ℕ → ℕ → Value
+number_of true half n = Int (pos n)
+number_of false half n = Int (signed_of half n)
+
+-- half of the numbers that a width has
+abbrev pub half_of : Width → ℕ
+half_of w.One = 0x80
+half_of w.Two = 0x8000
+half_of w.Four = 0x80000000
+half_of w.Eight = 0x8000000000000000
+
+-- The bytes spell the value by its type. NULL has none; a text stands after its length.
+pub data Spells : ParameterType → List ℕ → Value → Type 0 where
+  null : Spells p.Null [] Null
+  number : {unsigned : Bool} (width : Width) (n : ℕ) → n < half_of width + half_of width
+      → Spells (p.Number width unsigned) (little_endian (width_of width) n) (number_of unsigned (half_of width) n)
+  text : (bytes : List ℕ) → Spells p.Text (length_encoded_string bytes) (Bytes bytes)

@@ -1,0 +1,79 @@
+//! Reads values.
+ghost use Rattle.std.specs.Prelude.{◌≡◌, ◌⊎◌, ◌++◌, List, ℕ, IfOk, IfErr, IfSome, IsSomeAnd, MatchResult, pos, ◌<◌, ◌+◌};
+ghost use Rattle.mysql_packet.specs.Numbers.{little_endian};
+ghost use Rattle.statement_values.specs.Values.{Spells, number_of, half_of, width_of};
+
+use crate::unread::Unread;
+use crate::{ParameterType, Width};
+use mysql_message::numbers::read_length_encoded_string;
+use std::alloc::Global;
+use vt_value::{Items, Value};
+
+fn half_of(width: Width) -> i128
+    ensures { result ≡ pos (half_of width) }
+{
+    match width {
+        Width::One => 0x80,
+        Width::Two => 0x8000,
+        Width::Four => 0x8000_0000,
+        Width::Eight => 0x8000_0000_0000_0000,
+    }
+}
+
+/// The number that the front has in so many bytes, and what follows it.
+fn unsigned_at(width: Width, bytes: &[u8]) -> Option<(u64, &[u8])>
+    ensures found { IfSome result (λ x. bytes.now ≡ little_endian (width_of width) x.0 ++ x.1.now) }
+    ensures below { IfSome result (λ x. x.0 < half_of width + half_of width) }
+    ensures only { (n : ℕ) (rest : List ℕ) → n < half_of width + half_of width → bytes.now ≡ little_endian (width_of width) n ++ rest
+        → IsSomeAnd result (λ x. (x.0 ≡ n) × (x.1.now ≡ rest)) }
+{
+    match (width, bytes) {
+        (Width::One, [a, rest @ ..]) => Some((u64::from(*a), rest)),
+        (Width::Two, [a, b, rest @ ..]) => Some((u64::from(u16::from_le_bytes([*a, *b])), rest)),
+        (Width::Four, [a, b, c, d, rest @ ..]) => {
+            Some((u64::from(u32::from_le_bytes([*a, *b, *c, *d])), rest))
+        }
+        (Width::Eight, [a, b, c, d, e, f, g, h, rest @ ..]) => {
+            Some((u64::from_le_bytes([*a, *b, *c, *d, *e, *f, *g, *h]), rest))
+        }
+        _ => None,
+    }
+}
+
+/// What a number says, with a sign or without one.
+fn number_of(width: Width, unsigned: bool, n: u64) -> Value
+    requires { n < half_of width + half_of width }
+    ensures { result ≡ number_of unsigned (half_of width) n }
+{
+    let half = half_of(width);
+    let n = i128::from(n);
+    if unsigned || n < half {
+        Value::Int(n)
+    } else {
+        Value::Int(n - half - half)
+    }
+}
+
+/// The value of a type at the front, and what follows it. Bytes that are no value of the type are refused.
+pub fn read_value(
+    alloc: Global,
+    kind: ParameterType,
+    bytes: &[u8],
+) -> Result<(Value, &[u8]), Unread>
+    ensures found { IfOk result (λ x. (front : List ℕ) × (bytes.now ≡ front ++ x.1.now) × Spells kind front x.0) }
+    ensures only { (front rest : List ℕ) (v : Value) → Spells kind front v → bytes.now ≡ front ++ rest
+        → MatchResult result (λ x. (x.0 ≡ v) × (x.1.now ≡ rest)) (λ e. e ≡ Unread.OutOfMemory) }
+    ensures err { IfErr result (λ e. (e ≡ Unread.OutOfMemory) ⊎ (e ≡ Unread.Wrong)) }
+{
+    match kind {
+        ParameterType::Null => Ok((Value::Null, bytes)),
+        ParameterType::Number(width, unsigned) => match unsigned_at(width, bytes) {
+            Some((n, rest)) => Ok((number_of(width, unsigned, n), rest)),
+            None => Err(Unread::Wrong),
+        },
+        ParameterType::Text => match read_length_encoded_string(bytes) {
+            Some((text, rest)) => Ok((Value::Bytes(Items::from_slice(alloc, text)?), rest)),
+            None => Err(Unread::Wrong),
+        },
+    }
+}
