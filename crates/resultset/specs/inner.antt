@@ -3,3 +3,4 @@ pub mod Heads
 pub mod Reading
 pub mod Parts
 pub mod Texts
+pub mod Packing

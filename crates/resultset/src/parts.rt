@@ -2,8 +2,9 @@
 ghost use Rattle.std.specs.Prelude.{◌≡◌, ◌+◌, ◌≤◌, ◌++◌, length, OnOk};
 ghost use Rattle.resultset.specs.inner.Parts.{part_payload};
 
-use crate::Column;
+use crate::binary_rows::put_binary_row;
 use crate::writing::{put_definition, put_row};
+use crate::{Column, Kind};
 use bytes::BytesMut;
 use std::alloc::AllocError;
 use vt_value::Value;
@@ -13,6 +14,8 @@ use vt_value::Value;
 pub(crate) enum Part<'a> {
     Definition(&'a Column<'a>),
     Row(&'a [Value]),
+    /// A row as a prepared statement gives it, by the kinds of its columns.
+    BinaryRow(&'a [Kind], &'a [Value]),
 }
 
 /// The room that is made for a header.
@@ -21,7 +24,7 @@ const HEADER_ROOM: usize = 16;
 /// The room that is made for a header, the fixed fields of a definition and the lengths of its names.
 const DEFINITION_ROOM: usize = 72;
 
-/// The bytes that a number takes at most, with its length: its sign and 39 digits.
+/// The bytes that a number takes at most, with its length: its sign and 39 digits. In a binary row it has fewer.
 const NUMBER_ROOM: usize = 41;
 
 /// The bytes that the length of a text takes at most.
@@ -59,6 +62,7 @@ impl<'a> Part<'a> {
     pub(crate) fn room(&self) -> usize {
         match self {
             Part::Row(row) => row_room(row),
+            Part::BinaryRow(_, row) => row_room(row).saturating_add(row.len()),
             Part::Definition(column) => definition_room(column),
         }
     }
@@ -71,6 +75,7 @@ impl<'a> Part<'a> {
     {
         match self {
             Part::Row(row) => put_row(row, out),
+            Part::BinaryRow(kinds, row) => put_binary_row(kinds, row, out),
             Part::Definition(column) => put_definition(column, out),
         }
     }

@@ -133,7 +133,7 @@ fn fill_long(
 }
 
 /// Appends the packets of a part: straight to the present chunk if this has room for them.
-fn fill_part(
+pub(crate) fn fill_part(
     alloc: Global,
     part: &Part,
     number: u8,
@@ -238,7 +238,7 @@ fn fill_definitions_end(
 }
 
 /// Appends what comes after the rows.
-fn fill_rows_end(
+pub(crate) fn fill_rows_end(
     alloc: Global,
     number: u8,
     status: u16,
@@ -255,7 +255,7 @@ fn fill_rows_end(
 }
 
 /// Appends what stands in front of the rows.
-fn fill_head(
+pub(crate) fn fill_head(
     alloc: Global,
     columns: &[Column],
     number: u8,

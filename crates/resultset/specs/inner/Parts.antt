@@ -3,12 +3,14 @@ use Rattle.std.specs.Prelude.{ℕ, ◌<◌, List, ◌∷◌, ◌++◌, length}
 use Rattle.mysql_packet.specs.Numbers.{length_encoded_string}
 use Rattle.resultset.specs.declared.Column.{Column}
 use Rattle.resultset.specs.Encoding.{row_payload, definition_payload}
+use Rattle.resultset.specs.BinaryRows.{binary_row_payload}
 use Rattle.resultset.specs.declared.parts.Part.{Part}
-use Rattle.resultset.specs.declared.parts.Part.TheVariants.{Definition, Row}
+use Rattle.resultset.specs.declared.parts.Part.TheVariants.{Definition, Row, BinaryRow}
 
 abbrev pub part_payload : Part → List ℕ
 part_payload (Definition column) = definition_payload column.now
 part_payload (Row row) = row_payload row.now
+part_payload (BinaryRow kinds row) = binary_row_payload kinds.now row.now
 
 -- the length of each name takes one byte
 abbrev pub HasShortNames : Column → Type 0
