@@ -1,0 +1,3 @@
+pub mod Cuttings
+pub mod Tryings
+pub mod HeldLaws

@@ -1,0 +1,13 @@
+//! Statements that a connection has prepared: texts with holes, and the text that is run when one is executed.
+#![tactic(auto)]
+
+mod bytes;
+mod cutting;
+mod filling;
+mod held;
+mod literals;
+mod trying;
+
+pub use filling::filled;
+pub use held::{Held, MAX_STATEMENTS, NotExecuted, NotHeld, Prepared};
+pub use trying::{PreparedText, read_prepared};
