@@ -246,7 +246,7 @@ def refuses_packets(program):
                 check(f"{wanted}, then", is_closed(client), "end")
         with packets.Client(router.address) as client:
             client.login(USER.encode(), b"")
-            for payload in (b"", b"\x16SELECT 1", b"\x04t\0", b"\x11", b"\x1b\2\0"):
+            for payload in (b"", b"\x1dSELECT 1", b"\x04t\0", b"\x11", b"\x1b\2\0"):
                 client.send(payload, 0)
                 check(f"command {payload}", error_of(client.read()), "ERROR 1047 (08S01): unknown command")
             client.command(packets.PING)

@@ -3,7 +3,8 @@ use Rattle.std.proofs.Common.{[], ◌∷◌, ◌≡◌, refl, Some, None}
 use Rattle.std.specs.Prelude.{codes}
 use Rattle.vt_value.specs.declared.refusal.Refusal.TheVariants.{SyntaxError, DuplicateKey, PacketsOutOfOrder}
 use Rattle.mysql_packet.specs.Frames.{frame}
-use Rattle.mysql_message.specs.Messages.{quit, init_db, query, ping, ok_payload, eof_payload, set_end_payload, err_payload, command_of}
+use Rattle.mysql_message.specs.declared.command.StatementFault.TheVariants.{UnknownStatement}
+use Rattle.mysql_message.specs.Messages.{quit, init_db, query, ping, prepare, close, fault_payload, prepared_payload, ok_payload, eof_payload, set_end_payload, err_payload, command_of}
 
 ping_reply : frame 1 (ok_payload 0 2) ≡ 7 ∷ 0 ∷ 0 ∷ 1 ∷ 0 ∷ 0 ∷ 0 ∷ 2 ∷ 0 ∷ 0 ∷ 0 ∷ []
 ping_reply = refl
@@ -48,5 +49,20 @@ a_quit = refl
 no_payload : command_of [] ≡ None
 no_payload = refl
 
-no_command : command_of (0x16 ∷ []) ≡ None
+no_command : command_of (0x1D ∷ []) ≡ None
 no_command = refl
+
+-- the worked example of the protocol's documentation: DO 1
+a_prepare : command_of (0x16 ∷ codes "DO 1") ≡ Some (prepare (codes "DO 1"))
+a_prepare = refl
+
+a_close : command_of (0x19 ∷ 1 ∷ 0 ∷ 0 ∷ 0 ∷ []) ≡ Some (close (1 ∷ 0 ∷ 0 ∷ 0 ∷ []))
+a_close = refl
+
+-- the worked example of the protocol's documentation: the first statement, of one column and one hole
+prepared_reply : frame 1 (prepared_payload 1 1 1) ≡ 0x0C ∷ 0 ∷ 0 ∷ 1 ∷ 0 ∷ 1 ∷ 0 ∷ 0 ∷ 0 ∷ 1 ∷ 0 ∷ 1 ∷ 0 ∷ 0 ∷ 0 ∷ 0 ∷ []
+prepared_reply = refl
+
+unknown_statement : frame 1 (fault_payload UnknownStatement)
+    ≡ 0x23 ∷ 0 ∷ 0 ∷ 1 ∷ 0xFF ∷ 0xDB ∷ 0x04 ∷ 0x23 ∷ 0x48 ∷ 0x59 ∷ 0x30 ∷ 0x30 ∷ 0x30 ∷ codes "unknown prepared statement"
+unknown_statement = refl

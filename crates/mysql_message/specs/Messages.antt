@@ -4,7 +4,9 @@ use Rattle.vt_value.specs.declared.refusal.Refusal.{Refusal}
 use Rattle.vt_value.specs.Refusals.{code_of, state_of, message_of}
 use Rattle.mysql_packet.specs.Numbers.{little_endian, length_encoded}
 use Rattle.mysql_message.specs.declared.command.Command.{Command}
-use Rattle.mysql_message.specs.declared.command.Command.TheVariants.{Quit, InitDb, Query, Ping, Statistics, MultiStatements, Reset}
+use Rattle.mysql_message.specs.declared.command.Command.TheVariants.{Quit, InitDb, Query, Ping, Statistics, MultiStatements, Reset, Prepare, Execute, LongData, Close, ResetStatement, Fetch}
+use Rattle.mysql_message.specs.declared.command.StatementFault.{StatementFault}
+use Rattle.mysql_message.specs.declared.command.StatementFault.TheVariants.{UnknownStatement, TooManyStatements, WrongArguments}
 
 -- SERVER_STATUS_AUTOCOMMIT
 abbrev pub autocommit : ℕ
@@ -31,6 +33,17 @@ statistics_payload = codes "8.0.0-router"
 abbrev pub err_payload : Refusal → List ℕ
 err_payload r = 0xFF ∷ little_endian 2 (code_of r) ++ 0x23 ∷ state_of r ++ message_of r
 
+-- The ERR packet of a fault of prepared statements: a number that no statement has, one statement too many, and bytes that are no values.
+abbrev pub fault_payload : StatementFault → List ℕ
+fault_payload UnknownStatement = 0xFF ∷ little_endian 2 1243 ++ 0x23 ∷ codes "HY000" ++ codes "unknown prepared statement"
+fault_payload TooManyStatements = 0xFF ∷ little_endian 2 1461 ++ 0x23 ∷ codes "42000" ++ codes "too many statements"
+fault_payload WrongArguments = 0xFF ∷ little_endian 2 1210 ++ 0x23 ∷ codes "HY000" ++ codes "wrong arguments"
+
+-- What begins the answer to COM_STMT_PREPARE: the statement's number, how many columns and holes it has, an unused byte, no warnings.
+abbrev pub prepared_payload : ℕ → ℕ → ℕ → List ℕ
+prepared_payload statement columns holes =
+    0x00 ∷ little_endian 4 statement ++ little_endian 2 columns ++ little_endian 2 holes ++ 0x00 ∷ little_endian 2 0
+
 -- what a client asks for
 pub data Request : Type 0 where
   quit : Request
@@ -40,6 +53,12 @@ pub data Request : Type 0 where
   statistics : Request
   multi_statements : Bool → Request
   reset : Request
+  prepare : List ℕ → Request
+  execute : List ℕ → Request
+  long_data : List ℕ → Request
+  close : List ℕ → Request
+  reset_statement : List ℕ → Request
+  fetch : Request
 
 abbrev pub request_of : Command → Request
 request_of Quit = quit
@@ -49,6 +68,12 @@ request_of Ping = ping
 request_of Statistics = statistics
 request_of (MultiStatements on) = multi_statements on
 request_of Reset = reset
+request_of (Prepare text) = prepare text.now
+request_of (Execute bytes) = execute bytes.now
+request_of (LongData bytes) = long_data bytes.now
+request_of (Close bytes) = close bytes.now
+request_of (ResetStatement bytes) = reset_statement bytes.now
+request_of Fetch = fetch
 
 -- What COM_SET_OPTION asks for: MYSQL_OPTION_MULTI_STATEMENTS_ON is 0, and OFF is 1.
 abbrev pub option_of : List ℕ → Option Request
@@ -57,7 +82,8 @@ option_of (on ∷ high ∷ []) =
 option_of _ = None
 
 -- The command that a payload is, if it is one: COM_QUIT, COM_INIT_DB with a keyspace's name, COM_QUERY, COM_STATISTICS, COM_PING, COM_SET_OPTION with an option,
--- COM_RESET_CONNECTION. What follows the byte of the others isn't looked at.
+-- COM_RESET_CONNECTION; and those of prepared statements: COM_STMT_PREPARE with a text, COM_STMT_EXECUTE, COM_STMT_SEND_LONG_DATA, COM_STMT_CLOSE,
+-- COM_STMT_RESET, COM_STMT_FETCH. What follows the byte of the others isn't looked at.
 abbrev pub command_of : List ℕ → Option Request
 command_of [] = None
 command_of (b ∷ bytes) =
@@ -66,6 +92,12 @@ command_of (b ∷ bytes) =
     else if b == 0x03 then Some (query bytes)
     else if b == 0x09 then Some statistics
     else if b == 0x0E then Some ping
+    else if b == 0x16 then Some (prepare bytes)
+    else if b == 0x17 then Some (execute bytes)
+    else if b == 0x18 then Some (long_data bytes)
+    else if b == 0x19 then Some (close bytes)
+    else if b == 0x1A then Some (reset_statement bytes)
     else if b == 0x1B then option_of bytes
+    else if b == 0x1C then Some fetch
     else if b == 0x1F then Some reset
     else None

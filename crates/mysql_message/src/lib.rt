@@ -6,8 +6,9 @@ pub mod numbers;
 mod reply;
 mod text_value;
 
-pub use command::{Command, read_command};
+pub use command::{Command, StatementFault, read_command};
 pub use reply::{
-    eof_payload, put_eof, put_err, put_ok, put_set_end, put_statistics, set_end_payload,
+    eof_payload, prepared_payload, put_eof, put_err, put_fault, put_ok, put_set_end,
+    put_statistics, set_end_payload,
 };
 pub use text_value::put_text_value;

@@ -1,8 +1,9 @@
 //! Writes the packets that carry no rows: OK, EOF, ERR and the line of COM_STATISTICS.
 ghost use Rattle.std.specs.Prelude.{◌≡◌, ◌+◌, ◌<◌, ◌≤◌, ◌++◌, length, IfOk, IsOk, OnErr, OnOk};
 ghost use Rattle.mysql_packet.specs.Frames.{frame, number_after};
-ghost use Rattle.mysql_message.specs.Messages.{ok_payload, eof_payload, set_end_payload, statistics_payload, err_payload};
+ghost use Rattle.mysql_message.specs.Messages.{ok_payload, eof_payload, set_end_payload, statistics_payload, err_payload, fault_payload, prepared_payload};
 
+use crate::command::StatementFault;
 use crate::numbers::{length_encoded, little_endian, make_room};
 use arrayvec::ArrayVec;
 use bytes::BytesMut;
@@ -48,7 +49,7 @@ pub fn set_end_payload(status: u16) -> [u8; 7]
 }
 
 // Promise: OK, EOF and ERR packets, and the OK packet that ends a result set, have their one layout; with 64 bytes of room they can't fail
-// With: put_eof, put_err, put_set_end, put_statistics, eof_payload, set_end_payload
+// With: put_eof, put_err, put_fault, put_set_end, prepared_payload, put_statistics, eof_payload, set_end_payload
 /// Appends an OK packet: so many affected rows, 0 as the last insert id, the status, no warnings. It gives the
 /// sequence number after it. It refuses only for want of memory, and then leaves the buffer as it was.
 pub fn put_ok(number: u8, affected: u64, status: u16, out: &mut BytesMut) -> Result<u8, AllocError>
@@ -122,6 +123,53 @@ pub fn put_statistics(number: u8, out: &mut BytesMut) -> Result<u8, AllocError>
     ensures capacity { length out.old.items + out.old.spare ≤ length out.new.items + out.new.spare }
 {
     put_short(number, STATISTICS, out)
+}
+
+fn fault_payload(fault: StatementFault) -> &'static [u8]
+    ensures payload { result.now ≡ fault_payload fault }
+    ensures short { length result.now ≤ 60 }
+{
+    match fault {
+        StatementFault::UnknownStatement => b"\xFF\xDB\x04#HY000unknown prepared statement",
+        StatementFault::TooManyStatements => b"\xFF\xB5\x05#42000too many statements",
+        StatementFault::WrongArguments => b"\xFF\xBA\x04#HY000wrong arguments",
+    }
+}
+
+/// Appends the ERR packet of a fault of prepared statements, as `put_err` does that of a refusal.
+pub fn put_fault(number: u8, fault: StatementFault, out: &mut BytesMut) -> Result<u8, AllocError>
+    ensures ok { OnOk result (out.new.items ≡ out.old.items ++ frame number (fault_payload fault)) }
+    ensures next { IfOk result (λ n. n ≡ number_after number (fault_payload fault)) }
+    ensures err { OnErr result (out.new.items ≡ out.old.items) }
+    // With that much room it can't fail.
+    ensures room { 64 ≤ out.old.spare → IsOk result }
+    // No room is ever lost.
+    ensures capacity { length out.old.items + out.old.spare ≤ length out.new.items + out.new.spare }
+{
+    put_short(number, fault_payload(fault), out)
+}
+
+/// The payload of the packet that begins the answer to COM_STMT_PREPARE.
+pub fn prepared_payload(statement: u32, columns: u16, holes: u16) -> [u8; 12]
+    ensures { result ≡ prepared_payload statement columns holes }
+{
+    let [first, second, third, fourth, ..] = little_endian(u64::from(statement));
+    let [columns_low, columns_high, ..] = little_endian(u64::from(columns));
+    let [holes_low, holes_high, ..] = little_endian(u64::from(holes));
+    [
+        OK,
+        first,
+        second,
+        third,
+        fourth,
+        columns_low,
+        columns_high,
+        holes_low,
+        holes_high,
+        0x00,
+        0x00,
+        0x00,
+    ]
 }
 
 /// The payload of an OK packet whose number of rows takes one byte, as most do.

@@ -150,7 +150,7 @@ pub(crate) fn fill_part(
 
 /// Appends the packet of a short payload.
 #[inline(always)]
-fn fill_short(
+pub(crate) fn fill_short(
     alloc: Global,
     payload: &[u8],
     number: u8,
@@ -204,7 +204,7 @@ fn fill_definition(
 }
 
 /// Appends a packet for each definition.
-fn fill_definitions(
+pub(crate) fn fill_definitions(
     alloc: Global,
     columns: &[Column],
     number: u8,
@@ -221,7 +221,7 @@ fn fill_definitions(
 }
 
 /// Appends what comes after the definitions.
-fn fill_definitions_end(
+pub(crate) fn fill_definitions_end(
     alloc: Global,
     number: u8,
     status: u16,

@@ -9,6 +9,8 @@ use Rattle.mysql_message.specs.Messages.{ok_payload}
 use Rattle.vt_value.specs.declared.refusal.Refusal.TheVariants.{SyntaxError}
 use Rattle.resultset.specs.declared.Outcome.{Outcome}
 use Rattle.resultset.specs.declared.Outcome.TheVariants.{Count, Refused}
+use Rattle.resultset.specs.BinaryRows.{binary_encoded}
+use Rattle.session.specs.conversation.Prepared.{AnswersStatement}
 use Rattle.resultset.specs.Encoding.{encoded, after_rows}
 use Rattle.vschema.specs.WellFormed.{is_vschema}
 use Rattle.vschema.specs.Database.{Database}
@@ -120,6 +122,8 @@ module _ (o : Opening) (l : Limits) (handshake : Handshake) where
   answers_on _ s _ _ _ _ (t.takes_one_statement first command) = stays o l s.pass
   answers_on _ s _ _ _ _ (t.takes_no_more first command) = stays o l s.pass
   answers_on _ s _ _ _ _ (t.reset_all first command) = stays o l s.pass
+  answers_on _ s _ _ _ _ (t.executed {set} {after} {now} bytes text outcome first command runs gives) = text_on set after s now text outcome gives
+  answers_on _ s _ _ _ _ (t.of_statement request first command answers) = stays o l s.pass
 
   replies_later : (at : Phase) (s now : PassAndTransaction) (ps : List Payload) (out : List ℕ) (b : ConnectionState) → Replies (context_of o handshake) May at s ps out b now
       → IsPrefix s.pass.seen now.pass.seen
@@ -276,24 +280,36 @@ module _ (o : Opening) (l : Limits) (handshake : Handshake) where
     )
     answers_alone x _ s _ _ _ _ e (t.quits first command) legal others = (x, e, t.quits first command)
     answers_alone x _ s _ _ _ _ e (t.unknown first command) legal others = (x, e, t.unknown first command)
-    answers_alone x _ s _ p _ _ e (t.pinged {set} first command) legal others =
-        with_status x x s e (Commands set) p (λ is_open. frame (reply_number p) (ok_payload 0 (status_flags set.autocommit is_open))) (At (Commands set)) (t.pinged first command)
-    answers_alone x _ s _ p _ _ e (t.selected {set} name place first command is) legal others =
-        with_status x x s e (Commands set) p (λ is_open. frame (reply_number p) (ok_payload 0 (status_flags set.autocommit is_open)))
-        (At (Commands (record set { keyspace = Some place }))) (t.selected name place first command is)
+    answers_alone x _ s _ p _ _ e (t.pinged {set} {held} first command) legal others =
+        with_status x x s e (Commands set held) p (λ is_open. frame (reply_number p) (ok_payload 0 (status_flags set.autocommit is_open))) (At (Commands set held)) (t.pinged first command)
+    answers_alone x _ s _ p _ _ e (t.selected {set} {held} name place first command is) legal others =
+        with_status x x s e (Commands set held) p (λ is_open. frame (reply_number p) (ok_payload 0 (status_flags set.autocommit is_open)))
+        (At (Commands (record set { keyspace = Some place }) held)) (t.selected name place first command is)
     answers_alone x _ s _ _ _ _ e (t.unknown_keyspace name first command is) legal others = (x, e, t.unknown_keyspace name first command is)
-    answers_alone x _ s _ p _ _ e (t.queried {set} {after} {now} text outcome first command gives) legal others =
+    answers_alone x _ s _ p _ _ e (t.queried {set} {after} {held} {now} text outcome first command gives) legal others =
         let next = text_alone x s e set after text outcome now gives legal others in
-        with_status x next.0 now next.1 (Commands set) p
-        (λ is_open. encoded (set_end_of set.capabilities) outcome (reply_number p) (status_flags after.autocommit is_open)) (At (Commands after))
+        with_status x next.0 now next.1 (Commands set held) p
+        (λ is_open. encoded (set_end_of set.capabilities) outcome (reply_number p) (status_flags after.autocommit is_open)) (At (Commands after held))
         (t.queried text outcome first command next.2)
     answers_alone x _ s _ _ _ _ e (t.told_statistics first command) legal others = (x, e, t.told_statistics first command)
-    answers_alone x _ s _ p _ _ e (t.takes_one_statement {set} first command) legal others =
-        with_status x x s e (Commands set) p (λ is_open. frame (reply_number p) (after_rows (set_end_of set.capabilities) (status_flags set.autocommit is_open)))
-        (At (Commands set)) (t.takes_one_statement first command)
+    answers_alone x _ s _ p _ _ e (t.takes_one_statement {set} {held} first command) legal others =
+        with_status x x s e (Commands set held) p (λ is_open. frame (reply_number p) (after_rows (set_end_of set.capabilities) (status_flags set.autocommit is_open)))
+        (At (Commands set held)) (t.takes_one_statement first command)
     answers_alone x _ s _ _ _ _ e (t.takes_no_more first command) legal others = (x, e, t.takes_no_more first command)
     answers_alone x _ s _ _ _ _ e (t.reset_all first command) legal others =
         (without_transaction x, ap (λ (y : PassAndTransaction). none_open y.pass) e, t.reset_all first command)
+    answers_alone x _ s _ p _ _ e (t.executed {set} {after} {held} {held_then} {now} bytes text outcome first command runs gives) legal others =
+        let next = text_alone x s e set after text outcome now gives legal others in
+        with_status x next.0 now next.1 (Commands set held) p
+        (λ is_open. binary_encoded (set_end_of set.capabilities) outcome (reply_number p) (status_flags after.autocommit is_open)) (At (Commands after held_then))
+        (t.executed bytes text outcome first command runs next.2)
+    answers_alone x _ s _ p _ _ e (t.of_statement {set} {held} {held_then} {out} request first command answers) legal others = (
+      x,
+      e,
+      t.of_statement request first command
+          (subst (λ (is_open : Bool). AnswersStatement o.schema (set_end_of set.capabilities) (status_flags set.autocommit is_open) (reply_number p) held request out held_then)
+          (same_status x s e) answers),
+    )
 
     abbrev Replies_over : Phase → Alone o → List Payload → List ℕ → ConnectionState → Alone o → Type 0
     Replies_over = Replies (alone_context o handshake) (MeansAlone o l)

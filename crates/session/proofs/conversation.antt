@@ -9,3 +9,4 @@ pub mod TextColumns
 pub mod OwnAnswers
 pub mod TextLemmas
 pub mod KeptLemmas
+pub mod StatementReplies

@@ -5,6 +5,7 @@ pub mod Packets
 pub mod Logins
 pub mod SessionContext
 pub mod GivesText
+pub mod Prepared
 pub mod Talk
 pub mod Sessions
 pub mod Faults

@@ -10,6 +10,7 @@ mod devices;
 mod end;
 mod local_answers;
 mod login;
+mod prepared;
 mod reply;
 mod responder;
 mod texts;
@@ -24,5 +25,6 @@ pub(crate) use device::{Fetched, Unsent, drop_first, fetch, first_bytes, front_l
 pub use devices::{DeviceFailed, Reader, Sink, Source, Writer};
 pub use end::{End, SessionFault, Turned};
 pub use login::{keyspace_named, put_answer, put_response};
-pub use reply::{REPLY_ROOM, put_pong, put_refusal};
+pub(crate) use reply::still;
+pub use reply::{REPLY_ROOM, RowForm, put_pong, put_refusal};
 pub use responder::{ReplyState, Responder};

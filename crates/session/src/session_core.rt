@@ -1,5 +1,5 @@
 //! A session without its devices: what it knows, and what it writes for a piece of the input. The loop above it only moves bytes.
-ghost use Rattle.std.specs.Prelude.{◌≡◌, ℕ, ◌+◌, ◌≤◌, true, false, List, [], None, length, Err, IsSome, IfSome, IfErr, OnOk, ◌⊎◌};
+ghost use Rattle.std.specs.Prelude.{◌≡◌, ℕ, ◌+◌, ◌≤◌, true, false, List, [], None, length, Err, IsSome, IfSome, IfErr, OnOk, OnErr, ◌⊎◌};
 ghost use Rattle.std.specs.Io.KnownBytes.{Appends};
 ghost use Rattle.mysql_packet.specs.declared.framer.Fed.{Fed};
 ghost use Rattle.mysql_packet.specs.Frames.{packet};
@@ -18,14 +18,16 @@ ghost use Rattle.session.specs.conversation.inner.Sessions.{FedBy, one_command};
 
 use crate::conversation::{
     Access, ConnectionState, End, Handshake, Phase, REPLY_ROOM, ReplyState, Responder,
-    SessionFault, Settings, Sink, end_of, is_in_commands,
+    SessionFault, Settings, Sink, end_of, is_in_commands, still,
 };
 use bytes::BytesMut;
 use journal::Naming;
 use mysql_packet::Framer;
+use prepared_statements::Held;
 use route_engine::{Engine, Gate, ShardPass, Tx, World};
 use std::alloc::{AllocError, Global};
 use std::marker::Model;
+use std::mem;
 use std::sync::Wait;
 use std::thread::Threads;
 use vt_value::Items;
@@ -78,22 +80,15 @@ fn packet_between<'p>(framer: &Framer, piece: &'p [u8]) -> Option<&'p [u8]>
     }
 }
 
-/// The settings and the bytes of a command, if a piece is its one packet and nothing came in part before it: most pieces are.
-fn whole_command<'p>(
-    begin: ConnectionState,
-    framer: &Framer,
-    piece: &'p [u8],
-) -> Option<(Settings, &'p [u8])>
+/// The bytes of a command, if a piece is its one packet and nothing came in part before it: most pieces are.
+fn whole_command<'p>(framer: &Framer, piece: &'p [u8]) -> Option<&'p [u8]>
     requires limit { framer.now.limit ≡ COMMAND_LIMIT }
-    ensures begins { IfSome result (λ found. begin ≡ ConnectionState.At (Phase.Commands found.0)) }
-    ensures framed { IfSome result (λ found. FedBy framer.now framer.now piece.now (one_command found.1.now)) }
+    ensures packet { IfSome result (λ bytes. piece.now ≡ packet 0 bytes.now) }
+    ensures framed { IfSome result (λ bytes. FedBy framer.now framer.now piece.now (one_command bytes.now)) }
 {
-    match begin {
-        ConnectionState::At(Phase::Commands(settings)) => match packet_between(framer, piece) {
-            Some(bytes) => Some((settings, bytes)),
-            None => None,
-        },
-        _ => None,
+    match packet_between(framer, piece) {
+        Some(bytes) => Some(bytes),
+        None => None,
     }
 }
 
@@ -112,19 +107,20 @@ impl<W: World + Send + Sync, J: Naming + Send + Sync> CoreState<W, J> {
         &mut self,
         responder: &Responder<'_, W, J, G, R>,
         pass: &mut ShardPass<W, J>,
+        begin: ConnectionState,
         piece: &[u8],
         sink: &mut S,
     ) -> Result<(), SessionFault>
         requires room { REPLY_ROOM ≤ length self.old.replies.reply.items + self.old.replies.reply.spare }
         requires session { IsSome pass.old.session }
         requires tx { IsOf W.opening self.old.replies.tx pass.old }
-        requires open_session { end_of self.old.connection_state ≡ None }
+        requires open_session { end_of begin ≡ None }
         ensures answers { OnOk result ((fed : Fed) × FedBy self.old.framer self.new.framer piece.now fed × ((out : List ℕ)
             × Appends (S.taken sink.old) (S.taken sink.new) out × LeadsKept W.opening pass.old self.old.replies.tx pass.new self.new.replies.tx
-            (λ s now. AnswersFed (context_of W.opening responder.now.handshake.now) (Means W.opening W.limits) self.old.connection_state s fed out self.new.connection_state now))) }
+            (λ s now. AnswersFed (context_of W.opening responder.now.handshake.now) (Means W.opening W.limits) begin s fed out self.new.connection_state now))) }
         ensures write { result ≡ Err SessionFault.Write → (fed : Fed) × FedBy self.old.framer self.new.framer piece.now fed × ((written : List ℕ)
             × Appends (S.taken sink.old) (S.taken sink.new) written × LeadsKept W.opening pass.old self.old.replies.tx pass.new self.new.replies.tx
-            (λ s now. IsCutOff (context_of W.opening responder.now.handshake.now) (Means W.opening W.limits) self.old.connection_state s fed written now)) }
+            (λ s now. IsCutOff (context_of W.opening responder.now.handshake.now) (Means W.opening W.limits) begin s fed written now)) }
         ensures memory { result ≡ Err SessionFault.Memory → (pass.new ≡ pass.old) × (self.new.replies.tx ≡ self.old.replies.tx) × (sink.new ≡ sink.old) × (self.new.framer ≡ self.old.framer) }
         ensures count { S.failures sink.new ≡ write_failures_after result (S.failures sink.old) }
         ensures limit { self.new.framer.limit ≡ self.old.framer.limit }
@@ -136,9 +132,44 @@ impl<W: World + Send + Sync, J: Naming + Send + Sync> CoreState<W, J> {
         let Ok(fed) = self.framer.feed(piece) else {
             return Err(SessionFault::Memory);
         };
-        match responder.answer_fed(pass, &mut self.replies, self.connection_state, &fed, sink) {
+        match responder.answer_fed(pass, &mut self.replies, begin, &fed, sink) {
             Ok(connection_state) => {
                 self.connection_state = connection_state;
+                Ok(())
+            }
+            Err(_) => Err(SessionFault::Write),
+        }
+    }
+
+    /// Writes the reply to a command whose one packet is a piece: most pieces are.
+    fn feed_command<G: Gate, R: Threads + Wait + Sync, S: Sink>(
+        &mut self,
+        responder: &Responder<'_, W, J, G, R>,
+        pass: &mut ShardPass<W, J>,
+        settings: Settings,
+        held: Held,
+        command: &[u8],
+        sink: &mut S,
+    ) -> Result<(), SessionFault>
+        requires room { REPLY_ROOM ≤ length self.old.replies.reply.items + self.old.replies.reply.spare }
+        requires session { IsSome pass.old.session }
+        requires tx { IsOf W.opening self.old.replies.tx pass.old }
+        ensures answers { OnOk result ((out : List ℕ) × Appends (S.taken sink.old) (S.taken sink.new) out
+            × LeadsKept W.opening pass.old self.old.replies.tx pass.new self.new.replies.tx
+            (λ s now. AnswersFed (context_of W.opening responder.now.handshake.now) (Means W.opening W.limits) (ConnectionState.At (Phase.Commands settings held)) s (one_command command.now) out self.new.connection_state now)) }
+        ensures write { OnErr result ((written : List ℕ) × Appends (S.taken sink.old) (S.taken sink.new) written
+            × LeadsKept W.opening pass.old self.old.replies.tx pass.new self.new.replies.tx
+            (λ s now. IsCutOff (context_of W.opening responder.now.handshake.now) (Means W.opening W.limits) (ConnectionState.At (Phase.Commands settings held)) s (one_command command.now) written now)) }
+        ensures count { S.failures sink.new ≡ write_failures_after result (S.failures sink.old) }
+        ensures framer { self.new.framer ≡ self.old.framer }
+        ensures room { REPLY_ROOM ≤ length self.new.replies.reply.items + self.new.replies.reply.spare }
+        ensures cause { IfErr result (λ e. e ≡ SessionFault.Write) }
+        ensures tx { IsOf W.opening self.new.replies.tx pass.new }
+        ensures session { pass.new.session ≡ pass.old.session }
+    {
+        match responder.answer_command(pass, &mut self.replies, settings, held, command, sink) {
+            Ok(then) => {
+                self.connection_state = then;
                 Ok(())
             }
             Err(_) => Err(SessionFault::Write),
@@ -172,17 +203,17 @@ impl<W: World + Send + Sync, J: Naming + Send + Sync> CoreState<W, J> {
         ensures tx { IsOf W.opening self.new.replies.tx pass.new }
         ensures session { pass.new.session ≡ pass.old.session }
     {
-        match whole_command(self.connection_state, &self.framer, piece) {
-            Some((settings, command)) => {
-                match responder.answer_command(pass, &mut self.replies, settings, command, sink) {
-                    Ok(connection_state) => {
-                        self.connection_state = connection_state;
-                        Ok(())
+        let begin = mem::replace(&mut self.connection_state, ConnectionState::New);
+        match begin {
+            ConnectionState::At(Phase::Commands(settings, held)) => {
+                match whole_command(&self.framer, piece) {
+                    Some(command) => {
+                        self.feed_command(responder, pass, settings, held, command, sink)
                     }
-                    Err(_) => Err(SessionFault::Write),
+                    None => self.feed_framed(responder, pass, still(settings, held), piece, sink),
                 }
             }
-            None => self.feed_framed(responder, pass, piece, sink),
+            other => self.feed_framed(responder, pass, other, piece, sink),
         }
     }
 }
@@ -286,20 +317,19 @@ impl<W: World, J: Naming> Core<W, J> {
     pub fn commands(alloc: Global, id: u32, capabilities: u32) -> Result<Core<W, J>, AllocError>
         // Nothing has been read or written.
         ensures begins { IfOk result (λ core. (o : Opening) (l : Limits) (s : PassAndTransaction)
-            → HasTalked (context_of o core.handshake) (Means o l) (ConnectionState.At (Phase.Commands (settings_at_first capabilities None))) core s [] [] s) }
-        ensures connection_state { IfOk result (λ core. core.connection_state ≡ ConnectionState.At (Phase.Commands (settings_at_first capabilities None))) }
+            → HasTalked (context_of o core.handshake) (Means o l) (ConnectionState.At (Phase.Commands (settings_at_first capabilities None) [])) core s [] [] s) }
+        ensures connection_state { IfOk result (λ core. core.connection_state ≡ ConnectionState.At (Phase.Commands (settings_at_first capabilities None) [])) }
         ensures limit { IfOk result (λ core. core.framing.limit ≡ COMMAND_LIMIT) }
         ensures none_open { IfOk result (λ core. core.tx ≡ None) }
         ensures id { IfOk result (λ core. core.handshake.id ≡ id) }
     {
         let reply = BytesMut::with_capacity(alloc, REPLY_ROOM)?;
+        let settings = Settings::at_first(capabilities, None);
+        let held = Held::new(alloc);
         Ok(Core {
             state: CoreState {
                 framer: Framer::new(alloc, COMMAND_LIMIT),
-                connection_state: ConnectionState::At(Phase::Commands(Settings::at_first(
-                    capabilities,
-                    None,
-                ))),
+                connection_state: ConnectionState::At(Phase::Commands(settings, held)),
                 replies: ReplyState {
                     tx: Tx::new(),
                     reply,
@@ -324,10 +354,10 @@ impl<W: World, J: Naming> Core<W, J> {
     }
 
     /// The session's state.
-    pub fn connection_state(&self) -> ConnectionState
-        ensures { result ≡ self.now.connection_state }
+    pub fn connection_state(&self) -> &ConnectionState
+        ensures { result.now ≡ self.now.connection_state }
     {
-        self.state.connection_state
+        &self.state.connection_state
     }
 
     /// How the session ends if its input ends here, unless it has ended before: closed between two payloads, once the client was let in;
@@ -339,10 +369,10 @@ impl<W: World, J: Naming> Core<W, J> {
             → HasTalked (context_of o self.now.handshake) (Means o l) begin self.now first bytes out now
             → Talk self.now.framing.limit (context_of o self.now.handshake) (Means o l) begin first bytes out result now }
     {
-        match end_of(self.state.connection_state) {
+        match end_of(&self.state.connection_state) {
             Some(end) => end,
             None => {
-                let is_let_in = is_in_commands(self.state.connection_state);
+                let is_let_in = is_in_commands(&self.state.connection_state);
                 end_between(self.state.framer.is_between_payloads(), is_let_in)
             }
         }
@@ -428,7 +458,7 @@ impl<W: World + Send + Sync, J: Naming + Send + Sync> Core<W, J> {
         ensures next { IsStateAfter self.old self.new }
         ensures session { pass.new.session ≡ pass.old.session }
     {
-        if let Some(end) = end_of(self.state.connection_state) {
+        if let Some(end) = end_of(&self.state.connection_state) {
             return Ok(Some(end));
         }
         begins_with(engine, pass);
@@ -439,7 +469,7 @@ impl<W: World + Send + Sync, J: Naming + Send + Sync> Core<W, J> {
             handshake: &self.handshake,
         };
         match self.state.answer_piece(&responder, pass, piece, sink) {
-            Ok(()) => Ok(end_of(self.state.connection_state)),
+            Ok(()) => Ok(end_of(&self.state.connection_state)),
             Err(fault) => {
                 self.state.connection_state = ConnectionState::Ended(End::Broken);
                 Err(fault)

@@ -162,8 +162,8 @@ impl<W: World, J: Naming, D: Device> Conversation<W, J, D> {
     }
 
     /// The session's state.
-    pub fn connection_state(&self) -> ConnectionState
-        ensures { result ≡ self.now.connection_state }
+    pub fn connection_state(&self) -> &ConnectionState
+        ensures { result.now ≡ self.now.connection_state }
     {
         self.core.connection_state()
     }

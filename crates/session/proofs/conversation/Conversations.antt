@@ -453,6 +453,8 @@ answers_end context May _ _ _ _ _ _ (t.told_statistics first command) = tt
 answers_end context May _ _ _ _ _ _ (t.takes_one_statement first command) = tt
 answers_end context May _ _ _ _ _ _ (t.takes_no_more first command) = tt
 answers_end context May _ _ _ _ _ _ (t.reset_all first command) = tt
+answers_end context May _ _ _ _ _ _ (t.executed bytes text outcome first command runs gives) = tt
+answers_end context May _ _ _ _ _ _ (t.of_statement request first command answers) = tt
 
 replies_end : {S : Type 0} (context : SessionContext S) (May : S → List ℕ → Outcome → S → Type 0) (at : Phase) (s now : S) (ps : List Payload) (out : List ℕ) (b : ConnectionState)
     → Replies context May at s ps out b now → IfSome (end_of b) IsByCommand

@@ -5,7 +5,12 @@ use Rattle.std.specs.Prelude.{is_some, codes}
 use Rattle.vt_value.specs.declared.refusal.Refusal.TheVariants.{OutOfMemory, PacketsOutOfOrder, UnknownCommand, UnknownKeyspace, NotSupported}
 use Rattle.mysql_packet.specs.declared.framer.Payload.{Payload}
 use Rattle.mysql_packet.specs.Frames.{frame}
-use Rattle.mysql_message.specs.Messages.{quit, init_db, query, ping, statistics, multi_statements, reset, command_of, ok_payload, err_payload, statistics_payload}
+use Rattle.mysql_message.specs.Messages.{Request, execute, quit, init_db, query, ping, statistics, multi_statements, reset, command_of, ok_payload, err_payload, statistics_payload}
+use Rattle.resultset.specs.BinaryRows.{binary_encoded}
+use Rattle.prepared_statements.specs.Held.{Places, RunsHeld}
+use Rattle.session.specs.conversation.Prepared.{AnswersStatement}
+use Rattle.session.specs.declared.conversation.reply.RowForm.{RowForm}
+use Rattle.session.specs.conversation.inner.Replies.{encoded_in, TellsOutcome}
 use Rattle.resultset.specs.declared.Outcome.{Outcome}
 use Rattle.resultset.specs.declared.Outcome.TheVariants.{Count, Refused, Rows}
 use Rattle.resultset.specs.declared.ResultSet.{ResultSet}
@@ -67,50 +72,50 @@ logs_in_goes handshake keyspaces status _ p _ _ (l.answers {out} {connection_sta
     admits_goes status (reply_number p) login (is_right handshake.access.stage2 handshake.salt p.bytes) out connection_state a is
 
 module _ {S : Type 0} (context : SessionContext S) (May : S → List ℕ → Outcome → S → Type 0) where
-  module _ (set : Settings) where
+  module _ (set : Settings) (held : Places) where
     -- a payload whose reply is these bytes, after which the session stands so
     abbrev Goes : S → Payload → List ℕ → ConnectionState → S → Type 0
-    Goes s p out connection_state now = AnswersPayload context May (Commands set) s p out connection_state now
+    Goes s p out connection_state now = AnswersPayload context May (Commands set held) s p out connection_state now
 
     as_bytes : (s now : S) (p : Payload) (out bytes : List ℕ) (connection_state : ConnectionState) → out ≡ bytes → Goes s p bytes connection_state now → Goes s p out connection_state now
     as_bytes s now p out bytes connection_state e a = subst (λ (bs : List ℕ). Goes s p bs connection_state now) (sym e) a
 
     pub one_ping : (s : S) (p : Payload) (out : List ℕ) → p.first ≡ 0 → command_of p.bytes ≡ Some ping
-        → out ≡ frame (reply_number p) (ok_payload 0 (status_in context set s)) → Goes s p out (At (Commands set)) s
+        → out ≡ frame (reply_number p) (ok_payload 0 (status_in context set s)) → Goes s p out (At (Commands set held)) s
     one_ping s p out first is e = as_bytes s s p out _ _ e (t.pinged (eq-eqb p.first 0 first) is)
 
     pub one_unknown : (s : S) (p : Payload) (out : List ℕ) → p.first ≡ 0 → command_of p.bytes ≡ None
-        → out ≡ frame (reply_number p) (err_payload UnknownCommand) → Goes s p out (At (Commands set)) s
+        → out ≡ frame (reply_number p) (err_payload UnknownCommand) → Goes s p out (At (Commands set held)) s
     one_unknown s p out first is e = as_bytes s s p out _ _ e (t.unknown (eq-eqb p.first 0 first) is)
 
     pub one_line : (s : S) (p : Payload) (out : List ℕ) → p.first ≡ 0 → command_of p.bytes ≡ Some statistics
-        → out ≡ frame (reply_number p) statistics_payload → Goes s p out (At (Commands set)) s
+        → out ≡ frame (reply_number p) statistics_payload → Goes s p out (At (Commands set held)) s
     one_line s p out first is e = as_bytes s s p out _ _ e (t.told_statistics (eq-eqb p.first 0 first) is)
 
     one_statement : (s : S) (p : Payload) (out : List ℕ) → p.first ≡ 0 → command_of p.bytes ≡ Some (multi_statements false)
-        → out ≡ frame (reply_number p) (after_rows (set_end_of set.capabilities) (status_in context set s)) → Goes s p out (At (Commands set)) s
+        → out ≡ frame (reply_number p) (after_rows (set_end_of set.capabilities) (status_in context set s)) → Goes s p out (At (Commands set held)) s
     one_statement s p out first is e = as_bytes s s p out _ _ e (t.takes_one_statement (eq-eqb p.first 0 first) is)
 
     no_more_statements : (s : S) (p : Payload) (out : List ℕ) → p.first ≡ 0 → command_of p.bytes ≡ Some (multi_statements true)
-        → out ≡ frame (reply_number p) (err_payload NotSupported) → Goes s p out (At (Commands set)) s
+        → out ≡ frame (reply_number p) (err_payload NotSupported) → Goes s p out (At (Commands set held)) s
     no_more_statements s p out first is e = as_bytes s s p out _ _ e (t.takes_no_more (eq-eqb p.first 0 first) is)
 
     pub one_option : (s : S) (p : Payload) (out : List ℕ) (several : Bool) → p.first ≡ 0 → command_of p.bytes ≡ Some (multi_statements several)
         → (several ≡ true → out ≡ frame (reply_number p) (err_payload NotSupported))
         → (several ≡ false → out ≡ frame (reply_number p) (after_rows (set_end_of set.capabilities) (status_in context set s)))
-        → Goes s p out (At (Commands set)) s
+        → Goes s p out (At (Commands set held)) s
     one_option s p out true first is on off = no_more_statements s p out first is (on refl)
     one_option s p out false first is on off = one_statement s p out first is (off refl)
 
     pub one_reset : (s : S) (p : Payload) (out : List ℕ) → p.first ≡ 0 → command_of p.bytes ≡ Some reset
         → out ≡ frame (reply_number p) (ok_payload 0 (status_flags true false))
-        → Goes s p out (At (Commands (settings_at_first set.capabilities set.keyspace))) (context.dropped s)
+        → Goes s p out (At (Commands (settings_at_first set.capabilities set.keyspace) [])) (context.dropped s)
     one_reset s p out first is e = as_bytes s (context.dropped s) p out _ _ e (t.reset_all (eq-eqb p.first 0 first) is)
 
     pub one_selected : (s : S) (p : Payload) (out name : List ℕ) (connection_state : ConnectionState) → p.first ≡ 0 → command_of p.bytes ≡ Some (init_db name)
         → ((ordinal : ℕ) → keyspace_named context.schema.keyspaces name ≡ Some ordinal → (out ≡ frame (reply_number p) (ok_payload 0 (status_in context set s)))
-        × (connection_state ≡ At (Commands (record set { keyspace = Some ordinal }))))
-        → (keyspace_named context.schema.keyspaces name ≡ None → (out ≡ frame (reply_number p) (err_payload UnknownKeyspace)) × (connection_state ≡ At (Commands set)))
+        × (connection_state ≡ At (Commands (record set { keyspace = Some ordinal }) held)))
+        → (keyspace_named context.schema.keyspaces name ≡ None → (out ≡ frame (reply_number p) (err_payload UnknownKeyspace)) × (connection_state ≡ At (Commands set held)))
         → Goes s p out connection_state s
     one_selected s p out name connection_state first is known unknown = by_name (keyspace_named context.schema.keyspaces name) refl
       where
@@ -124,8 +129,19 @@ module _ {S : Type 0} (context : SessionContext S) (May : S → List ℕ → Out
 
     pub one_query : (then : Settings) (s now : S) (p : Payload) (out text : List ℕ) (outcome : Outcome) → p.first ≡ 0 → command_of p.bytes ≡ Some (query text)
         → GivesText context May set s text outcome then now → out ≡ encoded (set_end_of set.capabilities) outcome (reply_number p) (status_in context then now)
-        → Goes s p out (At (Commands then)) now
+        → Goes s p out (At (Commands then held)) now
     one_query then s now p out text outcome first is gives e = as_bytes s now p out _ _ e (t.queried text outcome (eq-eqb p.first 0 first) is gives)
+
+    pub one_execution : (after : Settings) (then : Places) (s now : S) (p : Payload) (out bytes text : List ℕ) (outcome : Outcome) → p.first ≡ 0
+        → command_of p.bytes ≡ Some (execute bytes) → RunsHeld held bytes text then → GivesText context May set s text outcome after now
+        → out ≡ binary_encoded (set_end_of set.capabilities) outcome (reply_number p) (status_in context after now) → Goes s p out (At (Commands after then)) now
+    one_execution after then s now p out bytes text outcome first is runs gives e =
+        as_bytes s now p out _ _ e (t.executed bytes text outcome (eq-eqb p.first 0 first) is runs gives)
+
+    pub one_statement_reply : (then : Places) (s : S) (p : Payload) (out : List ℕ) (request : Request) → p.first ≡ 0 → command_of p.bytes ≡ Some request
+        → AnswersStatement context.schema (set_end_of set.capabilities) (status_in context set s) (reply_number p) held request out then
+        → Goes s p out (At (Commands set then)) s
+    one_statement_reply then s p out request first is answers = t.of_statement request (eq-eqb p.first 0 first) is answers
 
     pub one_quit : (s : S) (p : Payload) (out : List ℕ) → p.first ≡ 0 → command_of p.bytes ≡ Some quit → out ≡ []
         → Goes s p out (Ended Quit) s
@@ -149,6 +165,8 @@ module _ {S : Type 0} (context : SessionContext S) (May : S → List ℕ → Out
   answers_go _ _ _ _ _ _ (t.takes_one_statement first command) is = cc
   answers_go _ _ _ _ _ _ (t.takes_no_more first command) is = cc
   answers_go _ _ _ _ _ _ (t.reset_all first command) is = cc
+  answers_go _ _ _ _ _ _ (t.executed bytes text outcome first command runs gives) is = cc
+  answers_go _ _ _ _ _ _ (t.of_statement request first command answers) is = cc
 
   pub never_new : (at : Phase) (s now : S) (p : Payload) (b : ConnectionState) (a c : Option (List ℕ)) → b ≡ New
       → (out : List ℕ) × Appends a c out × AnswersPayload context May at s p out b now → ⊥
@@ -292,17 +310,18 @@ pub none_stands : (o : Opening) (p : PassView Entry) (then : Option OpenView) �
 none_stands o p then none = (None, subst (λ (x : Option OpenView). Represents o p x None) (sym none) stands.closed)
 
 -- COM_RESET_CONNECTION, whatever was kept
-pub reset_kept : (o : Opening) (l : Limits) (handshake : Handshake) (set anew : Settings) (p : PassView Entry) (kept then : Option OpenView) (payload : Payload) (out : List ℕ)
+pub reset_kept : (o : Opening) (l : Limits) (handshake : Handshake) (set anew : Settings) (held_then none_then : Places) (p : PassView Entry) (kept then : Option OpenView) (payload : Payload) (out : List ℕ)
     (status : ℕ) → payload.first ≡ 0 → command_of payload.bytes ≡ Some reset → then ≡ None → status ≡ status_flags true false
-    → anew ≡ settings_at_first set.capabilities set.keyspace → out ≡ frame (reply_number payload) (ok_payload 0 status)
-    → LeadsKept o p kept p then (λ s now. AnswersPayload (context_of o handshake) (Means o l) (Commands set) s payload out (At (Commands anew)) now)
-reset_kept o l handshake set anew p kept then payload out status first is none flags begins written = λ s held.
+    → anew ≡ settings_at_first set.capabilities set.keyspace → none_then ≡ [] → out ≡ frame (reply_number payload) (ok_payload 0 status)
+    → LeadsKept o p kept p then (λ s now. AnswersPayload (context_of o handshake) (Means o l) (Commands set held_then) s payload out (At (Commands anew none_then)) now)
+reset_kept o l handshake set anew held_then none_then p kept then payload out status first is none flags begins empty written = λ s held.
     let e : out ≡ frame (reply_number payload) (ok_payload 0 (status_flags true false)) =
     written ∙ ap (λ (n : ℕ). frame (reply_number payload) (ok_payload 0 n)) flags in (
       none_open s.pass,
       (held.0, subst (λ (x : Option OpenView). Represents o p x None) (sym none) stands.closed),
-      subst (λ (x : Settings). AnswersPayload (context_of o handshake) (Means o l) (Commands set) s payload out (At (Commands x)) (none_open s.pass)) (sym begins)
-          (one_reset (context_of o handshake) (Means o l) set s payload out first is e),
+      subst (λ (x : Places). AnswersPayload (context_of o handshake) (Means o l) (Commands set held_then) s payload out (At (Commands anew x)) (none_open s.pass)) (sym empty)
+          (subst (λ (x : Settings). AnswersPayload (context_of o handshake) (Means o l) (Commands set held_then) s payload out (At (Commands x [])) (none_open s.pass)) (sym begins)
+          (one_reset (context_of o handshake) (Means o l) set held_then s payload out first is e)),
     )
 
 -- one after the other
@@ -324,30 +343,44 @@ begun_then o l handshake set p q r kept mid then text outcome none off opens beg
     let two = runs one.0 one.1 in
     (two.0, two.1, g.after_begin (needs_one o handshake set p kept s none off held) opens one.2 two.2)
 
--- a query's outcome, told under the status that is kept then
-pub one_query_or_refusal : (o : Opening) (l : Limits) (handshake : Handshake) (set after : Settings) (p q : PassView Entry) (kept then : Option OpenView) (payload : Payload)
-    (out text : List ℕ) (outcome : Outcome) → payload.first ≡ 0 → command_of payload.bytes ≡ Some (query text)
+-- a text's outcome, told in this form under the status that is kept then
+pub one_text_or_refusal : (o : Opening) (l : Limits) (handshake : Handshake) (set after : Settings) (form : RowForm) (p q : PassView Entry) (kept then : Option OpenView)
+    (number : ℕ) (out text : List ℕ) (outcome : Outcome) (Goes : PassAndTransaction → PassAndTransaction → Type 0)
+    → ((s now : PassAndTransaction) (x : Outcome) → GivesText (context_of o handshake) (Means o l) set s text x after now
+    → out ≡ encoded_in form (set_end_of set.capabilities) x number (status_flags after.autocommit (is_some now.tx)) → Goes s now)
     → LeadsKept o p kept q then (λ s now. GivesText (context_of o handshake) (Means o l) set s text outcome after now)
-    → (out ≡ encoded (set_end_of set.capabilities) outcome (reply_number payload) (status_flags after.autocommit (is_some then)))
-    ⊎ (IsRows outcome × (out ≡ encoded (set_end_of set.capabilities) (Refused OutOfMemory) (reply_number payload) (status_flags after.autocommit (is_some then))))
-    → LeadsKept o p kept q then (λ s now. AnswersPayload (context_of o handshake) (Means o l) (Commands set) s payload out (At (Commands after)) now)
-one_query_or_refusal o l handshake set after p q kept then payload out text outcome first is gives told = λ s held.
+    → TellsOutcome form (set_end_of set.capabilities) outcome number (status_flags after.autocommit (is_some then)) out
+    → LeadsKept o p kept q then Goes
+one_text_or_refusal o l handshake set after form p q kept then number out text outcome Goes goes gives told = λ s held.
     let next = gives s held in
     let now = next.0 in
     let same : is_some then ≡ is_some now.tx = kept_status o q then now next.1 in
     (now, next.1, by s now same next.2 told)
   where
     Encoded : Outcome → Bool → List ℕ
-    Encoded x is_open = encoded (set_end_of set.capabilities) x (reply_number payload) (status_flags after.autocommit is_open)
+    Encoded x is_open = encoded_in form (set_end_of set.capabilities) x number (status_flags after.autocommit is_open)
 
     by : (s now : PassAndTransaction) → is_some then ≡ is_some now.tx → GivesText (context_of o handshake) (Means o l) set s text outcome after now
-        → (out ≡ Encoded outcome (is_some then)) ⊎ (IsRows outcome × (out ≡ Encoded (Refused OutOfMemory) (is_some then)))
-        → AnswersPayload (context_of o handshake) (Means o l) (Commands set) s payload out (At (Commands after)) now
-    by s now same gives (inl e) =
-        one_query (context_of o handshake) (Means o l) set after s now payload out text outcome first is gives (e ∙ ap (λ (b : Bool). Encoded outcome b) same)
+        → (out ≡ Encoded outcome (is_some then)) ⊎ (IsRows outcome × (out ≡ Encoded (Refused OutOfMemory) (is_some then))) → Goes s now
+    by s now same gives (inl e) = goes s now outcome gives (e ∙ ap (λ (b : Bool). Encoded outcome b) same)
     by s now same gives (inr (rows, e)) =
-        one_query (context_of o handshake) (Means o l) set after s now payload out text (Refused OutOfMemory) first is (unshown_text o l handshake set after s now text outcome gives rows)
-        (e ∙ ap (λ (b : Bool). Encoded (Refused OutOfMemory) b) same)
+        goes s now (Refused OutOfMemory) (unshown_text o l handshake set after s now text outcome gives rows) (e ∙ ap (λ (b : Bool). Encoded (Refused OutOfMemory) b) same)
+
+-- the answer to a command of prepared statements that runs none
+pub statement_kept : (o : Opening) (l : Limits) (handshake : Handshake) (schema : VSchema) (set : Settings) (held_now held_then : Places) (p : PassView Entry) (kept : Option OpenView)
+    (payload : Payload) (status : ℕ) (out : List ℕ) (request : Request) (connection_state : ConnectionState) → payload.first ≡ 0 → command_of payload.bytes ≡ Some request
+    → schema ≡ o.schema → status ≡ status_flags set.autocommit (is_some kept) → connection_state ≡ At (Commands set held_then)
+    → AnswersStatement schema (set_end_of set.capabilities) status (reply_number payload) held_now request out held_then
+    → LeadsKept o p kept p kept (λ s now. AnswersPayload (context_of o handshake) (Means o l) (Commands set held_now) s payload out connection_state now)
+statement_kept o l handshake schema set held_now held_then p kept payload status out request connection_state first is served told goes answers = λ s held.
+    let status_now : status ≡ status_flags set.autocommit (is_some s.tx) = told ∙ ap (λ (b : Bool). status_flags set.autocommit b) (kept_status o p kept s held) in (
+      s,
+      held,
+      subst (λ (b : ConnectionState). AnswersPayload (context_of o handshake) (Means o l) (Commands set held_now) s payload out b s) (sym goes)
+          (one_statement_reply (context_of o handshake) (Means o l) set held_now held_then s payload out request first is
+          (subst (λ (n : ℕ). AnswersStatement o.schema (set_end_of set.capabilities) n (reply_number payload) held_now request out held_then) status_now
+          (subst (λ (v : VSchema). AnswersStatement v (set_end_of set.capabilities) status (reply_number payload) held_now request out held_then) served answers))),
+    )
 
 -- rows as they are shown, or the refusal for want of memory
 pub shown_or_full : (schema : VSchema) (selected : Selected) (outcome : Outcome) → Shows schema (answer.Rows selected) outcome ⊎ (outcome ≡ Refused OutOfMemory)

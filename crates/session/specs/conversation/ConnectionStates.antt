@@ -15,13 +15,13 @@ settings_at_first capabilities keyspace = record { capabilities = capabilities; 
 abbrev pub first_number : Phase → ℕ
 first_number Response = 1
 first_number (Switch login) = 3
-first_number (Commands settings) = 0
+first_number (Commands settings held) = 0
 
 -- the client was let in, and sends commands
 abbrev pub takes_commands : Phase → Bool
 takes_commands Response = false
 takes_commands (Switch login) = false
-takes_commands (Commands settings) = true
+takes_commands (Commands settings held) = true
 
 -- the session is in the phase of commands
 abbrev pub is_in_commands : ConnectionState → Bool

@@ -53,7 +53,7 @@ pub data Admits (status number : ℕ) (login : PendingLogin) (right : Bool) : Li
   unknown : (login.is_user && right) ≡ true → login.is_database ≡ false
       → Admits status number login right (frame number (err_payload UnknownKeyspace)) (Ended Denied)
   admitted : (login.is_user && right) ≡ true → login.is_database ≡ true
-      → Admits status number login right (frame number (ok_payload 0 status)) (At (Commands (settings_at_first login.capabilities login.keyspace)))
+      → Admits status number login right (frame number (ok_payload 0 status)) (At (Commands (settings_at_first login.capabilities login.keyspace) []))
 
 -- What is written for a payload of the connection phase: the client's response to the greeting, which is numbered 1, and, if that came
 -- by another plugin, its answer to the request to switch, numbered 3.

@@ -4,7 +4,7 @@ use Rattle.vt_value.specs.declared.refusal.Refusal.TheVariants.{PacketsOutOfOrde
 use Rattle.mysql_packet.specs.declared.framer.Payload.{Payload}
 use Rattle.mysql_packet.specs.declared.framer.HeaderFault.{HeaderFault}
 use Rattle.mysql_packet.specs.Frames.{frame, Splits, IsRefusedAfter}
-use Rattle.mysql_message.specs.Messages.{quit, init_db, query, ping, statistics, multi_statements, reset, command_of, ok_payload, err_payload, statistics_payload}
+use Rattle.mysql_message.specs.Messages.{Request, execute, quit, init_db, query, ping, statistics, multi_statements, reset, command_of, ok_payload, err_payload, statistics_payload}
 use Rattle.resultset.specs.declared.Outcome.{Outcome}
 use Rattle.resultset.specs.declared.SetEnd.{SetEnd}
 use Rattle.resultset.specs.declared.SetEnd.TheVariants.{EofPackets, OkPacket}
@@ -21,7 +21,10 @@ use Rattle.session.specs.declared.conversation.connection_state.ConnectionState.
 use Rattle.session.specs.conversation.ConnectionStates.{first_number, takes_commands, settings_at_first}
 use Rattle.session.specs.conversation.Packets.{refusal_bytes, reply_number}
 pub use Rattle.session.specs.conversation.SessionContext.{SessionContext, in_transaction, status_flags, status_in}
+use Rattle.resultset.specs.BinaryRows.{binary_encoded}
+use Rattle.prepared_statements.specs.Held.{Places, RunsHeld}
 use Rattle.session.specs.conversation.GivesText.{GivesText}
+use Rattle.session.specs.conversation.Prepared.{AnswersStatement}
 use Rattle.session.specs.conversation.Logins.{LogsIn, keyspace_named}
 
 -- how the parts of a result set end, by the capabilities that both sides set
@@ -37,36 +40,44 @@ module _ {S : Type 0} (context : SessionContext S) (May : S → List ℕ → Out
   -- What is written for one payload in a phase, and the session's state after it. A payload whose first number is another than the phase
   -- begins with is out of order, which ends the session, as COM_QUIT does. A client may use each keyspace, which changes no answer. A query has
   -- an outcome that its text may give, and that leads from what the session had seen to what it then has seen. COM_RESET_CONNECTION drops an
-  -- open transaction and what was set. Texts of several statements are never taken.
+  -- open transaction, what was set and what was prepared. Texts of several statements are never taken. What executes a prepared statement gives what
+  -- its text gives in which each hole has the literal of its value, in binary rows.
   pub data AnswersPayload : Phase → S → Payload → List ℕ → ConnectionState → S → Type 0 where
     out_of_order : {at : Phase} {s : S} {p : Payload} → p.first == first_number at ≡ false
         → AnswersPayload at s p (refusal_bytes p.first PacketsOutOfOrder) (Ended Broken) s
     logs_in : {at : Phase} {s : S} {p : Payload} {out : List ℕ} {connection_state : ConnectionState} → LogsIn context.handshake context.schema.keyspaces (status_flags true (context.is_open s)) at p out connection_state
         → AnswersPayload at s p out connection_state s
-    quits : {set : Settings} {s : S} {p : Payload} → p.first == 0 ≡ true → command_of p.bytes ≡ Some quit
-        → AnswersPayload (Commands set) s p [] (Ended Quit) s
-    unknown : {set : Settings} {s : S} {p : Payload} → p.first == 0 ≡ true → command_of p.bytes ≡ None
-        → AnswersPayload (Commands set) s p (frame (reply_number p) (err_payload UnknownCommand)) (At (Commands set)) s
-    pinged : {set : Settings} {s : S} {p : Payload} → p.first == 0 ≡ true → command_of p.bytes ≡ Some ping
-        → AnswersPayload (Commands set) s p (frame (reply_number p) (ok_payload 0 (status_in context set s))) (At (Commands set)) s
-    selected : {set : Settings} {s : S} {p : Payload} (name : List ℕ) (ordinal : ℕ) → p.first == 0 ≡ true → command_of p.bytes ≡ Some (init_db name)
+    quits : {set : Settings} {held : Places} {s : S} {p : Payload} → p.first == 0 ≡ true → command_of p.bytes ≡ Some quit
+        → AnswersPayload (Commands set held) s p [] (Ended Quit) s
+    unknown : {set : Settings} {held : Places} {s : S} {p : Payload} → p.first == 0 ≡ true → command_of p.bytes ≡ None
+        → AnswersPayload (Commands set held) s p (frame (reply_number p) (err_payload UnknownCommand)) (At (Commands set held)) s
+    pinged : {set : Settings} {held : Places} {s : S} {p : Payload} → p.first == 0 ≡ true → command_of p.bytes ≡ Some ping
+        → AnswersPayload (Commands set held) s p (frame (reply_number p) (ok_payload 0 (status_in context set s))) (At (Commands set held)) s
+    selected : {set : Settings} {held : Places} {s : S} {p : Payload} (name : List ℕ) (ordinal : ℕ) → p.first == 0 ≡ true → command_of p.bytes ≡ Some (init_db name)
         → keyspace_named context.schema.keyspaces name ≡ Some ordinal
-        → AnswersPayload (Commands set) s p (frame (reply_number p) (ok_payload 0 (status_in context set s))) (At (Commands (record set { keyspace = Some ordinal }))) s
-    unknown_keyspace : {set : Settings} {s : S} {p : Payload} (name : List ℕ) → p.first == 0 ≡ true → command_of p.bytes ≡ Some (init_db name)
+        → AnswersPayload (Commands set held) s p (frame (reply_number p) (ok_payload 0 (status_in context set s))) (At (Commands (record set { keyspace = Some ordinal }) held)) s
+    unknown_keyspace : {set : Settings} {held : Places} {s : S} {p : Payload} (name : List ℕ) → p.first == 0 ≡ true → command_of p.bytes ≡ Some (init_db name)
         → keyspace_named context.schema.keyspaces name ≡ None
-        → AnswersPayload (Commands set) s p (frame (reply_number p) (err_payload UnknownKeyspace)) (At (Commands set)) s
-    queried : {set after : Settings} {s now : S} {p : Payload} (text : List ℕ) (outcome : Outcome)
+        → AnswersPayload (Commands set held) s p (frame (reply_number p) (err_payload UnknownKeyspace)) (At (Commands set held)) s
+    queried : {set after : Settings} {held : Places} {s now : S} {p : Payload} (text : List ℕ) (outcome : Outcome)
         → p.first == 0 ≡ true → command_of p.bytes ≡ Some (query text) → GivesText context May set s text outcome after now
-        → AnswersPayload (Commands set) s p (encoded (set_end_of set.capabilities) outcome (reply_number p) (status_in context after now)) (At (Commands after)) now
-    told_statistics : {set : Settings} {s : S} {p : Payload} → p.first == 0 ≡ true → command_of p.bytes ≡ Some statistics
-        → AnswersPayload (Commands set) s p (frame (reply_number p) statistics_payload) (At (Commands set)) s
-    takes_one_statement : {set : Settings} {s : S} {p : Payload} → p.first == 0 ≡ true → command_of p.bytes ≡ Some (multi_statements false)
-        → AnswersPayload (Commands set) s p (frame (reply_number p) (after_rows (set_end_of set.capabilities) (status_in context set s))) (At (Commands set)) s
-    takes_no_more : {set : Settings} {s : S} {p : Payload} → p.first == 0 ≡ true → command_of p.bytes ≡ Some (multi_statements true)
-        → AnswersPayload (Commands set) s p (frame (reply_number p) (err_payload NotSupported)) (At (Commands set)) s
-    reset_all : {set : Settings} {s : S} {p : Payload} → p.first == 0 ≡ true → command_of p.bytes ≡ Some reset
-        → AnswersPayload (Commands set) s p (frame (reply_number p) (ok_payload 0 (status_flags true false)))
-        (At (Commands (settings_at_first set.capabilities set.keyspace))) (context.dropped s)
+        → AnswersPayload (Commands set held) s p (encoded (set_end_of set.capabilities) outcome (reply_number p) (status_in context after now)) (At (Commands after held)) now
+    told_statistics : {set : Settings} {held : Places} {s : S} {p : Payload} → p.first == 0 ≡ true → command_of p.bytes ≡ Some statistics
+        → AnswersPayload (Commands set held) s p (frame (reply_number p) statistics_payload) (At (Commands set held)) s
+    takes_one_statement : {set : Settings} {held : Places} {s : S} {p : Payload} → p.first == 0 ≡ true → command_of p.bytes ≡ Some (multi_statements false)
+        → AnswersPayload (Commands set held) s p (frame (reply_number p) (after_rows (set_end_of set.capabilities) (status_in context set s))) (At (Commands set held)) s
+    takes_no_more : {set : Settings} {held : Places} {s : S} {p : Payload} → p.first == 0 ≡ true → command_of p.bytes ≡ Some (multi_statements true)
+        → AnswersPayload (Commands set held) s p (frame (reply_number p) (err_payload NotSupported)) (At (Commands set held)) s
+    reset_all : {set : Settings} {held : Places} {s : S} {p : Payload} → p.first == 0 ≡ true → command_of p.bytes ≡ Some reset
+        → AnswersPayload (Commands set held) s p (frame (reply_number p) (ok_payload 0 (status_flags true false)))
+        (At (Commands (settings_at_first set.capabilities set.keyspace) [])) (context.dropped s)
+    executed : {set after : Settings} {held held_then : Places} {s now : S} {p : Payload} (bytes text : List ℕ) (outcome : Outcome)
+        → p.first == 0 ≡ true → command_of p.bytes ≡ Some (execute bytes) → RunsHeld held bytes text held_then → GivesText context May set s text outcome after now
+        → AnswersPayload (Commands set held) s p (binary_encoded (set_end_of set.capabilities) outcome (reply_number p) (status_in context after now))
+        (At (Commands after held_then)) now
+    of_statement : {set : Settings} {held held_then : Places} {s : S} {p : Payload} {out : List ℕ} (request : Request) → p.first == 0 ≡ true → command_of p.bytes ≡ Some request
+        → AnswersStatement context.schema (set_end_of set.capabilities) (status_in context set s) (reply_number p) held request out held_then
+        → AnswersPayload (Commands set held) s p out (At (Commands set held_then)) s
 
   -- What is written for payloads, one after another, from a phase on. Payloads after the end are not answered.
   pub data Replies : Phase → S → List Payload → List ℕ → ConnectionState → S → Type 0 where

@@ -30,6 +30,7 @@ use bytes::BytesMut;
 use journal::Naming;
 use mysql_handshake::put_greeting;
 use mysql_packet::{Fed, HeaderFault, Payload};
+use prepared_statements::Held;
 use resultset::Chunks;
 use route_engine::{Gate, ShardPass, World};
 use std::sync::Wait;
@@ -173,6 +174,7 @@ impl<W: World + Send + Sync, J: Naming + Send + Sync, G: Gate, R: Threads + Wait
         pass: &mut ShardPass<W, J>,
         state: &mut ReplyState<W, J>,
         settings: Settings,
+        held: Held,
         command: &[u8],
         sink: &mut S,
     ) -> Result<ConnectionState, DeviceFailed>
@@ -181,17 +183,17 @@ impl<W: World + Send + Sync, J: Naming + Send + Sync, G: Gate, R: Threads + Wait
         requires tx { IsOf W.opening state.old.tx pass.old }
         ensures answers { IfOk result (λ connection_state. (out : List ℕ) × Appends (S.taken sink.old) (S.taken sink.new) out
             × LeadsKept W.opening pass.old state.old.tx pass.new state.new.tx
-            (λ s now. AnswersFed (context_of W.opening self.now.handshake.now) (Means W.opening W.limits) (ConnectionState.At (Phase.Commands settings)) s (one_command command.now) out connection_state now)) }
+            (λ s now. AnswersFed (context_of W.opening self.now.handshake.now) (Means W.opening W.limits) (ConnectionState.At (Phase.Commands settings held)) s (one_command command.now) out connection_state now)) }
         ensures cut { OnErr result ((written : List ℕ) × Appends (S.taken sink.old) (S.taken sink.new) written
             × LeadsKept W.opening pass.old state.old.tx pass.new state.new.tx
-            (λ s now. IsCutOff (context_of W.opening self.now.handshake.now) (Means W.opening W.limits) (ConnectionState.At (Phase.Commands settings)) s (one_command command.now) written now)) }
+            (λ s now. IsCutOff (context_of W.opening self.now.handshake.now) (Means W.opening W.limits) (ConnectionState.At (Phase.Commands settings held)) s (one_command command.now) written now)) }
         ensures count { S.failures sink.new ≡ failures_after result (S.failures sink.old) }
         ensures room { REPLY_ROOM ≤ length state.new.reply.items + state.new.reply.spare }
         ensures tx { IsOf W.opening state.new.tx pass.new }
         ensures session { pass.new.session ≡ pass.old.session }
     {
         state.reply.clear();
-        let (then, rows) = self.put_command(pass, state, settings, 0, command);
+        let (then, rows) = self.put_command(pass, state, settings, held, 0, command);
         match write_reply(rows, state.reply.as_slice(), sink) {
             Ok(()) => Ok(then),
             Err(failed) => Err(failed),

@@ -12,6 +12,8 @@ use crate::conversation::reply::{REPLY_ROOM, put_pong, put_refusal};
 use bytes::BytesMut;
 use mysql_handshake::{Response, put_auth_switch, read_response, verify_native};
 use mysql_packet::Payload;
+use prepared_statements::Held;
+use std::alloc::Global;
 use vschema::{Keyspace, VSchema};
 use vt_value::Refusal;
 
@@ -84,6 +86,7 @@ fn login_of(handshake: &Handshake, schema: &VSchema, response: &Response) -> Pen
 #[tactic(auto, using(crate::proofs::conversation::LoginLemmas::is_denied, crate::proofs::conversation::LoginLemmas::is_unknown, crate::proofs::conversation::LoginLemmas::is_admitted))]
 /// Lets the client in whose answer to the salt is right or not, or denies it.
 fn admit(
+    alloc: Global,
     login: PendingLogin,
     is_right: bool,
     number: u8,
@@ -105,7 +108,8 @@ fn admit(
         return ConnectionState::Ended(End::Denied);
     }
     put_pong(number, status, reply);
-    ConnectionState::At(Phase::Commands(Settings::at_first(login.capabilities, login.keyspace)))
+    let settings = Settings::at_first(login.capabilities, login.keyspace);
+    ConnectionState::At(Phase::Commands(settings, Held::new(alloc)))
 }
 
 /// Asks the client to answer the salt by `mysql_native_password`.
@@ -120,6 +124,7 @@ fn ask_again(number: u8, handshake: &Handshake, reply: &mut BytesMut)
 
 /// What is written for the client's response to the greeting, and the session's state after it.
 pub fn put_response(
+    alloc: Global,
     handshake: &Handshake,
     schema: &VSchema,
     payload: &Payload,
@@ -145,13 +150,14 @@ pub fn put_response(
                 return ConnectionState::At(Phase::Switch(login));
             }
             let is_right = verify_native(handshake.access.stage2, &handshake.salt, response.answer);
-            admit(login, is_right, number, status, reply)
+            admit(alloc, login, is_right, number, status, reply)
         }
     }
 }
 
 /// What is written for the client's answer to the request to switch, and the session's state after it.
 pub fn put_answer(
+    alloc: Global,
     handshake: &Handshake,
     login: PendingLogin,
     payload: &Payload,
@@ -169,5 +175,6 @@ pub fn put_answer(
         &handshake.salt,
         payload.bytes.as_slice(),
     );
-    admit(login, is_right, payload.last.wrapping_add(1), status, reply)
+    let number = payload.last.wrapping_add(1);
+    admit(alloc, login, is_right, number, status, reply)
 }

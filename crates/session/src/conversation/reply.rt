@@ -12,10 +12,11 @@ ghost use Rattle.client_statements.specs.Asks.{Asks, IsSet};
 ghost use Rattle.session.specs.conversation.Means.{Means, context_of};
 ghost use Rattle.session.specs.conversation.inner.Means.{LeadsKept, AnswersAsked};
 ghost use Rattle.session.specs.conversation.Logins.{keyspace_named};
+ghost use Rattle.session.specs.conversation.GivesText.{GivesText};
 ghost use Rattle.session.specs.conversation.Packets.{reply_number};
 ghost use Rattle.session.specs.conversation.SessionContext.{status_flags};
 ghost use Rattle.session.specs.conversation.Talk.{AnswersPayload, set_end_of};
-ghost use Rattle.session.specs.conversation.inner.Replies.{reply_bytes, TellsOutcome};
+ghost use Rattle.session.specs.conversation.inner.Replies.{reply_bytes, encoded_in, TellsOutcome};
 ghost use Rattle.session.specs.conversation.inner.Sessions.{command_payload};
 
 use crate::conversation::client_reply::{ClientReply, ClientReplyKind, ShownSet};
@@ -23,13 +24,15 @@ use crate::conversation::connection_state::{ConnectionState, Phase, Settings, fi
 use crate::conversation::end::End;
 use crate::conversation::local_answers::{not_run, refused, set_refusal};
 use crate::conversation::login::{keyspace_named, put_answer, put_response};
+use crate::conversation::prepared::{closed, put_prepare, put_statement_reset, without};
 use crate::conversation::responder::{ReplyState, Responder};
 use bytes::BytesMut;
 use journal::Naming;
 use mysql_handshake::{DEPRECATE_EOF, is_set};
 use mysql_message::{Command, put_eof, put_err, put_ok, put_set_end, put_statistics, read_command};
 use mysql_packet::Payload;
-use resultset::{Chunks, SetEnd, encode_rows_after};
+use prepared_statements::Held;
+use resultset::{Chunks, SetEnd, encode_binary_rows_after, encode_rows_after};
 use route_engine::{Gate, ShardPass, Tx, World};
 use std::alloc::{AllocError, Global};
 use std::sync::Wait;
@@ -64,7 +67,7 @@ fn status_flags(commits: bool, is_open: bool) -> u16
     autocommit + in_transaction
 }
 
-fn status_of<W: World, J: Naming>(commits: bool, tx: &Tx<W, J>) -> u16
+pub(crate) fn status_of<W: World, J: Naming>(commits: bool, tx: &Tx<W, J>) -> u16
     ensures { result ≡ status_flags commits (is_some tx.now) }
 {
     status_flags(commits, tx.is_open())
@@ -89,7 +92,7 @@ fn put_count(number: u8, count: u64, status: u16, reply: &mut BytesMut)
     let _ = put_ok(number, count, status, reply).unwrap();
 }
 
-fn set_end_of(capabilities: u32) -> SetEnd
+pub(crate) fn set_end_of(capabilities: u32) -> SetEnd
     ensures { result ≡ set_end_of capabilities }
 {
     if is_set(DEPRECATE_EOF, capabilities) {
@@ -103,6 +106,7 @@ fn set_end_of(capabilities: u32) -> SetEnd
 /// then. Refuses only for want of memory.
 fn put_set(
     alloc: Global,
+    form: RowForm,
     set: ShownSet,
     end: SetEnd,
     number: u8,
@@ -111,17 +115,37 @@ fn put_set(
 ) -> Result<Chunks, AllocError>
     requires empty { reply.old.items ≡ [] }
     requires room { REPLY_ROOM ≤ reply.old.spare }
-    ensures ok { IfOk result (λ chunks. concat chunks ++ reply.new.items ≡ encoded end (Outcome.Rows set.entry) number status) }
+    ensures ok { IfOk result (λ chunks. concat chunks ++ reply.new.items ≡ encoded_in form end (Outcome.Rows set.entry) number status) }
     ensures room { REPLY_ROOM ≤ length reply.new.items + reply.new.spare }
 {
     let ShownSet { columns, rows } = set;
     let rows = rows.pulled(alloc)?;
-    encode_rows_after(alloc, columns.as_slice(), rows, number, status, end, reply)
+    match form {
+        RowForm::Text => encode_rows_after(
+            alloc,
+            columns.as_slice(),
+            rows,
+            number,
+            status,
+            end,
+            reply,
+        ),
+        RowForm::Binary => encode_binary_rows_after(
+            alloc,
+            columns.as_slice(),
+            rows,
+            number,
+            status,
+            end,
+            reply,
+        ),
+    }
 }
 
 /// The reply of a result set, or, if there is no memory for it, the refusal that says so.
 fn put_rows(
     alloc: Global,
+    form: RowForm,
     set: ShownSet,
     end: SetEnd,
     number: u8,
@@ -130,11 +154,11 @@ fn put_rows(
 ) -> Option<Chunks>
     requires empty { reply.old.items ≡ [] }
     requires room { REPLY_ROOM ≤ reply.old.spare }
-    ensures bytes { (reply_bytes result reply.new.items ≡ encoded end (Outcome.Rows set.entry) number status)
-        ⊎ (reply_bytes result reply.new.items ≡ encoded end (Outcome.Refused Refusal.OutOfMemory) number status) }
+    ensures bytes { (reply_bytes result reply.new.items ≡ encoded_in form end (Outcome.Rows set.entry) number status)
+        ⊎ (reply_bytes result reply.new.items ≡ encoded_in form end (Outcome.Refused Refusal.OutOfMemory) number status) }
     ensures room { REPLY_ROOM ≤ length reply.new.items + reply.new.spare }
 {
-    match put_set(alloc, set, end, number, status, reply) {
+    match put_set(alloc, form, set, end, number, status, reply) {
         Ok(chunks) => Some(chunks),
         Err(_) => {
             reply.clear();
@@ -149,6 +173,7 @@ fn put_rows(
 #[inline(always)]
 fn put_outcome(
     alloc: Global,
+    form: RowForm,
     outcome: ClientReply,
     end: SetEnd,
     number: u8,
@@ -157,11 +182,11 @@ fn put_outcome(
 ) -> Option<Chunks>
     requires empty { reply.old.items ≡ [] }
     requires room { REPLY_ROOM ≤ reply.old.spare }
-    ensures bytes { TellsOutcome end outcome.entry number status (reply_bytes result reply.new.items) }
+    ensures bytes { TellsOutcome form end outcome.entry number status (reply_bytes result reply.new.items) }
     ensures room { REPLY_ROOM ≤ length reply.new.items + reply.new.spare }
 {
     match outcome.reply_kind {
-        ClientReplyKind::Rows(set) => put_rows(alloc, set, end, number, status, reply),
+        ClientReplyKind::Rows(set) => put_rows(alloc, form, set, end, number, status, reply),
         ClientReplyKind::Count(count) => {
             put_count(number, count, status, reply);
             None
@@ -173,10 +198,25 @@ fn put_outcome(
     }
 }
 
+/// The session goes on with these.
+pub(crate) fn still(settings: Settings, held: Held) -> ConnectionState
+    ensures { result ≡ ConnectionState.At (Phase.Commands settings held) }
+{
+    ConnectionState::At(Phase::Commands(settings, held))
+}
+
+/// How rows are spelled: as texts, or as prepared statements give them.
+#[derive(Clone, Copy, Debug, PartialEq, Eq)]
+pub enum RowForm {
+    Text,
+    Binary,
+}
+
 /// The reply to the name of a keyspace, and the session's state after it: an OK, and it is in use; or that there is none of that name.
 fn put_selected(
     schema: &VSchema,
     settings: Settings,
+    held: Held,
     name: &[u8],
     number: u8,
     status: u16,
@@ -185,23 +225,24 @@ fn put_selected(
     requires empty { reply.old.items ≡ [] }
     requires room { REPLY_ROOM ≤ reply.old.spare }
     ensures known { (ordinal : ℕ) → keyspace_named schema.now.keyspaces name.now ≡ Some ordinal → (reply.new.items ≡ frame number (ok_payload 0 status))
-        × (result ≡ ConnectionState.At (Phase.Commands (record settings { keyspace = Some ordinal }))) }
+        × (result ≡ ConnectionState.At (Phase.Commands (record settings { keyspace = Some ordinal }) held)) }
     ensures unknown { keyspace_named schema.now.keyspaces name.now ≡ None → (reply.new.items ≡ frame number (err_payload Refusal.UnknownKeyspace))
-        × (result ≡ ConnectionState.At (Phase.Commands settings)) }
+        × (result ≡ ConnectionState.At (Phase.Commands settings held)) }
     ensures room { REPLY_ROOM ≤ length reply.new.items + reply.new.spare }
 {
     match keyspace_named(schema, name) {
         Some(ordinal) => {
             put_pong(number, status, reply);
-            ConnectionState::At(Phase::Commands(Settings {
+            let chosen = Settings {
                 capabilities: settings.capabilities,
                 autocommit: settings.autocommit,
                 keyspace: Some(ordinal),
-            }))
+            };
+            ConnectionState::At(Phase::Commands(chosen, held))
         }
         None => {
             put_refusal(number, Refusal::UnknownKeyspace, reply);
-            ConnectionState::At(Phase::Commands(settings))
+            ConnectionState::At(Phase::Commands(settings, held))
         }
     }
 }
@@ -255,8 +296,8 @@ impl<W: World + Send + Sync, J: Naming + Send + Sync, G: Gate, R: Threads + Wait
     G,
     R,
 > {
-    /// The reply to a text that isn't run, by what it asks of the server, and the session's state after it.
-    /// Its caller has found what the text is refused for, and which number the reply has.
+    /// The reply to a text that isn't run, by what it asks of the server, and what then holds for commands.
+    /// Its caller has found what the text is refused for, and which number and form the reply has.
     #[inline(never)]
     fn put_asked(
         &self,
@@ -266,15 +307,16 @@ impl<W: World + Send + Sync, J: Naming + Send + Sync, G: Gate, R: Threads + Wait
         text: &[u8],
         why: Refusal,
         number: u8,
-    ) -> (ConnectionState, Option<Chunks>)
+        form: RowForm,
+    ) -> (Settings, Option<Chunks>)
         requires empty { state.old.reply.items ≡ [] }
         requires room { REPLY_ROOM ≤ state.old.reply.spare }
         requires session { IsSome pass.old.session }
         requires tx { IsOf W.opening state.old.tx pass.old }
-        ensures answers { (outcome : Outcome) × (then : Settings) × (result.0 ≡ ConnectionState.At (Phase.Commands then))
+        ensures answers { (outcome : Outcome)
             × LeadsKept W.opening pass.old state.old.tx pass.new state.new.tx
-            (λ s now. AnswersAsked (context_of W.opening self.now.handshake.now) (Means W.opening W.limits) settings s text.now (Outcome.Refused why) outcome then now)
-            × TellsOutcome (set_end_of settings.capabilities) outcome number (status_flags then.autocommit (is_some state.new.tx)) (reply_bytes result.1 state.new.reply.items) }
+            (λ s now. AnswersAsked (context_of W.opening self.now.handshake.now) (Means W.opening W.limits) settings s text.now (Outcome.Refused why) outcome result.0 now)
+            × TellsOutcome form (set_end_of settings.capabilities) outcome number (status_flags result.0.autocommit (is_some state.new.tx)) (reply_bytes result.1 state.new.reply.items) }
         ensures tx { IsOf W.opening state.new.tx pass.new }
         ensures room { REPLY_ROOM ≤ length state.new.reply.items + state.new.reply.spare }
         ensures session { pass.new.session ≡ pass.old.session }
@@ -282,11 +324,19 @@ impl<W: World + Send + Sync, J: Naming + Send + Sync, G: Gate, R: Threads + Wait
         let (answered, then) = self.asked(pass, &mut state.tx, settings, text, why);
         let end = set_end_of(settings.capabilities);
         let status = status_of(then.autocommit, &state.tx);
-        let rows = put_outcome(self.alloc, answered, end, number, status, &mut state.reply);
-        (ConnectionState::At(Phase::Commands(then)), rows)
+        let rows = put_outcome(
+            self.alloc,
+            form,
+            answered,
+            end,
+            number,
+            status,
+            &mut state.reply,
+        );
+        (then, rows)
     }
 
-    /// The reply to a query that isn't refused before it is run, and the session's state after it.
+    /// The reply to a text that isn't refused before it is run, whose rows have this form, and what then holds for commands.
     fn put_run(
         &self,
         pass: &mut ShardPass<W, J>,
@@ -294,15 +344,17 @@ impl<W: World + Send + Sync, J: Naming + Send + Sync, G: Gate, R: Threads + Wait
         settings: Settings,
         text: &[u8],
         number: u8,
-    ) -> (ConnectionState, Option<Chunks>)
+        form: RowForm,
+    ) -> (Settings, Option<Chunks>)
         requires empty { state.old.reply.items ≡ [] }
         requires room { REPLY_ROOM ≤ state.old.reply.spare }
         requires session { IsSome pass.old.session }
         requires tx { IsOf W.opening state.old.tx pass.old }
         requires held { IsSet text.now → Asks text.now ClientStatement.NotSupported → ⊥ }
-        ensures answers { (payload : Payload) → payload.first ≡ 0 → number ≡ reply_number payload → command_of payload.bytes ≡ Some (query text.now)
-            → LeadsKept W.opening pass.old state.old.tx pass.new state.new.tx
-            (λ s now. AnswersPayload (context_of W.opening self.now.handshake.now) (Means W.opening W.limits) (Phase.Commands settings) s payload (reply_bytes result.1 state.new.reply.items) result.0 now) }
+        ensures gives { (outcome : Outcome)
+            × LeadsKept W.opening pass.old state.old.tx pass.new state.new.tx
+            (λ s now. GivesText (context_of W.opening self.now.handshake.now) (Means W.opening W.limits) settings s text.now outcome result.0 now)
+            × TellsOutcome form (set_end_of settings.capabilities) outcome number (status_flags result.0.autocommit (is_some state.new.tx)) (reply_bytes result.1 state.new.reply.items) }
         ensures tx { IsOf W.opening state.new.tx pass.new }
         ensures room { REPLY_ROOM ≤ length state.new.reply.items + state.new.reply.spare }
         ensures session { pass.new.session ≡ pass.old.session }
@@ -312,41 +364,59 @@ impl<W: World + Send + Sync, J: Naming + Send + Sync, G: Gate, R: Threads + Wait
             None => {
                 let end = set_end_of(settings.capabilities);
                 let status = status_of(settings.autocommit, &state.tx);
-                let rows = put_outcome(self.alloc, outcome, end, number, status, &mut state.reply);
-                (ConnectionState::At(Phase::Commands(settings)), rows)
+                let rows = put_outcome(
+                    self.alloc,
+                    form,
+                    outcome,
+                    end,
+                    number,
+                    status,
+                    &mut state.reply,
+                );
+                (settings, rows)
             }
-            Some(why) => self.put_asked(pass, state, settings, text, why, number),
+            Some(why) => self.put_asked(pass, state, settings, text, why, number, form),
         }
     }
 
-    /// The reply to a query, and the session's state after it.
-    fn put_query(
+    /// The reply to a text, whose rows have this form, and what then holds for commands.
+    pub(crate) fn put_text(
         &self,
         pass: &mut ShardPass<W, J>,
         state: &mut ReplyState<W, J>,
         settings: Settings,
         text: &[u8],
         number: u8,
-    ) -> (ConnectionState, Option<Chunks>)
+        form: RowForm,
+    ) -> (Settings, Option<Chunks>)
         requires empty { state.old.reply.items ≡ [] }
         requires room { REPLY_ROOM ≤ state.old.reply.spare }
         requires session { IsSome pass.old.session }
         requires tx { IsOf W.opening state.old.tx pass.old }
-        ensures answers { (payload : Payload) → payload.first ≡ 0 → number ≡ reply_number payload → command_of payload.bytes ≡ Some (query text.now)
-            → LeadsKept W.opening pass.old state.old.tx pass.new state.new.tx
-            (λ s now. AnswersPayload (context_of W.opening self.now.handshake.now) (Means W.opening W.limits) (Phase.Commands settings) s payload (reply_bytes result.1 state.new.reply.items) result.0 now) }
+        ensures gives { (outcome : Outcome)
+            × LeadsKept W.opening pass.old state.old.tx pass.new state.new.tx
+            (λ s now. GivesText (context_of W.opening self.now.handshake.now) (Means W.opening W.limits) settings s text.now outcome result.0 now)
+            × TellsOutcome form (set_end_of settings.capabilities) outcome number (status_flags result.0.autocommit (is_some state.new.tx)) (reply_bytes result.1 state.new.reply.items) }
         ensures tx { IsOf W.opening state.new.tx pass.new }
         ensures room { REPLY_ROOM ≤ length state.new.reply.items + state.new.reply.spare }
         ensures session { pass.new.session ≡ pass.old.session }
     {
         match set_refusal(self.alloc, text) {
-            None => self.put_run(pass, state, settings, text, number),
+            None => self.put_run(pass, state, settings, text, number, form),
             Some(why) => {
                 let end = set_end_of(settings.capabilities);
                 let status = status_of(settings.autocommit, &state.tx);
                 let outcome = refused(why);
-                let rows = put_outcome(self.alloc, outcome, end, number, status, &mut state.reply);
-                (ConnectionState::At(Phase::Commands(settings)), rows)
+                let rows = put_outcome(
+                    self.alloc,
+                    form,
+                    outcome,
+                    end,
+                    number,
+                    status,
+                    &mut state.reply,
+                );
+                (settings, rows)
             }
         }
     }
@@ -358,6 +428,7 @@ impl<W: World + Send + Sync, J: Naming + Send + Sync, G: Gate, R: Threads + Wait
         pass: &mut ShardPass<W, J>,
         state: &mut ReplyState<W, J>,
         settings: Settings,
+        held: Held,
         last: u8,
         bytes: &[u8],
     ) -> (ConnectionState, Option<Chunks>)
@@ -366,32 +437,35 @@ impl<W: World + Send + Sync, J: Naming + Send + Sync, G: Gate, R: Threads + Wait
         requires session { IsSome pass.old.session }
         requires tx { IsOf W.opening state.old.tx pass.old }
         ensures answers { LeadsKept W.opening pass.old state.old.tx pass.new state.new.tx
-            (λ s now. AnswersPayload (context_of W.opening self.now.handshake.now) (Means W.opening W.limits) (Phase.Commands settings) s (command_payload last bytes.now) (reply_bytes result.1 state.new.reply.items) result.0 now) }
+            (λ s now. AnswersPayload (context_of W.opening self.now.handshake.now) (Means W.opening W.limits) (Phase.Commands settings held) s (command_payload last bytes.now) (reply_bytes result.1 state.new.reply.items) result.0 now) }
         ensures tx { IsOf W.opening state.new.tx pass.new }
         ensures room { REPLY_ROOM ≤ length state.new.reply.items + state.new.reply.spare }
         ensures session { pass.new.session ≡ pass.old.session }
     {
         let number = last.wrapping_add(1);
-        let next = ConnectionState::At(Phase::Commands(settings));
         match read_command(bytes) {
             Err(refusal) => {
                 put_refusal(number, refusal, &mut state.reply);
-                (next, None)
+                (ConnectionState::At(Phase::Commands(settings, held)), None)
             }
-            Ok(Command::Quit) => (ConnectionState::Ended(End::Quit), None),
+            Ok(Command::Quit) => {
+                drop(held);
+                (ConnectionState::Ended(End::Quit), None)
+            }
             Ok(Command::Ping) => {
                 put_pong(
                     number,
                     status_of(settings.autocommit, &state.tx),
                     &mut state.reply,
                 );
-                (next, None)
+                (ConnectionState::At(Phase::Commands(settings, held)), None)
             }
             Ok(Command::InitDb(name)) => {
                 let status = status_of(settings.autocommit, &state.tx);
                 let chosen = put_selected(
                     self.engine.schema(),
                     settings,
+                    held,
                     name,
                     number,
                     status,
@@ -399,22 +473,78 @@ impl<W: World + Send + Sync, J: Naming + Send + Sync, G: Gate, R: Threads + Wait
                 );
                 (chosen, None)
             }
-            Ok(Command::Query(text)) => self.put_query(pass, state, settings, text, number),
+            Ok(Command::Query(text)) => {
+                let (then, rows) = self.put_text(
+                    pass,
+                    state,
+                    settings,
+                    text,
+                    number,
+                    RowForm::Text,
+                );
+                (ConnectionState::At(Phase::Commands(then, held)), rows)
+            }
             Ok(Command::Statistics) => {
                 put_line(number, &mut state.reply);
-                (next, None)
+                (ConnectionState::At(Phase::Commands(settings, held)), None)
             }
             Ok(Command::MultiStatements(several)) => {
                 let end = set_end_of(settings.capabilities);
                 let status = status_of(settings.autocommit, &state.tx);
                 put_option(several, end, number, status, &mut state.reply);
-                (next, None)
+                (ConnectionState::At(Phase::Commands(settings, held)), None)
             }
             Ok(Command::Reset) => {
+                drop(held);
                 state.tx = Tx::new();
                 put_pong(number, status_flags(true, false), &mut state.reply);
                 let first = Settings::at_first(settings.capabilities, settings.keyspace);
-                (ConnectionState::At(Phase::Commands(first)), None)
+                (
+                    ConnectionState::At(Phase::Commands(first, Held::new(self.alloc))),
+                    None,
+                )
+            }
+            Ok(Command::Prepare(text)) => {
+                let end = set_end_of(settings.capabilities);
+                let status = status_of(settings.autocommit, &state.tx);
+                let (held, rows) = put_prepare(
+                    self.alloc,
+                    self.engine.schema(),
+                    end,
+                    held,
+                    text,
+                    number,
+                    status,
+                    &mut state.reply,
+                );
+                (ConnectionState::At(Phase::Commands(settings, held)), rows)
+            }
+            Ok(Command::Execute(execution)) => {
+                self.put_execute(pass, state, settings, held, execution, number)
+            }
+            Ok(Command::LongData(data)) => {
+                let held = without(held, data);
+                (ConnectionState::At(Phase::Commands(settings, held)), None)
+            }
+            Ok(Command::Close(closing)) => {
+                let held = closed(held, closing);
+                (ConnectionState::At(Phase::Commands(settings, held)), None)
+            }
+            Ok(Command::ResetStatement(resetting)) => {
+                let status = status_of(settings.autocommit, &state.tx);
+                let held = put_statement_reset(
+                    self.alloc,
+                    held,
+                    resetting,
+                    number,
+                    status,
+                    &mut state.reply,
+                );
+                (ConnectionState::At(Phase::Commands(settings, held)), None)
+            }
+            Ok(Command::Fetch) => {
+                put_refusal(number, Refusal::NotSupported, &mut state.reply);
+                (ConnectionState::At(Phase::Commands(settings, held)), None)
             }
         }
     }
@@ -438,7 +568,7 @@ impl<W: World + Send + Sync, J: Naming + Send + Sync, G: Gate, R: Threads + Wait
         ensures room { REPLY_ROOM ≤ length state.new.reply.items + state.new.reply.spare }
         ensures session { pass.new.session ≡ pass.old.session }
     {
-        if payload.first != first_number(phase) {
+        if payload.first != first_number(&phase) {
             put_refusal(
                 payload.first.wrapping_add(1),
                 Refusal::PacketsOutOfOrder,
@@ -449,6 +579,7 @@ impl<W: World + Send + Sync, J: Naming + Send + Sync, G: Gate, R: Threads + Wait
         match phase {
             Phase::Response => (
                 put_response(
+                    self.alloc,
                     self.handshake,
                     self.engine.schema(),
                     payload,
@@ -459,6 +590,7 @@ impl<W: World + Send + Sync, J: Naming + Send + Sync, G: Gate, R: Threads + Wait
             ),
             Phase::Switch(login) => (
                 put_answer(
+                    self.alloc,
                     self.handshake,
                     login,
                     payload,
@@ -467,9 +599,9 @@ impl<W: World + Send + Sync, J: Naming + Send + Sync, G: Gate, R: Threads + Wait
                 ),
                 None,
             ),
-            Phase::Commands(settings) => {
+            Phase::Commands(settings, held) => {
                 let bytes = payload.bytes.as_slice();
-                self.put_command(pass, state, settings, payload.last, bytes)
+                self.put_command(pass, state, settings, held, payload.last, bytes)
             }
         }
     }

@@ -1,0 +1,78 @@
+-- What answers the commands of prepared statements.
+use Rattle.std.specs.Prelude.{◌≡◌, ℕ, ◌-◌, ◌^◌, ◌<◌, ◌≤◌, Bool, true, false, ◌||◌, List, [], ◌++◌, length, Some, Ok, Err}
+use Rattle.vt_value.specs.declared.refusal.Refusal.{Refusal}
+use Rattle.vt_value.specs.declared.refusal.Refusal.TheVariants as r
+use Rattle.sql_tree.specs.declared.Statement.{Statement}
+use Rattle.sql_tree.specs.declared.Statement.TheVariants.{Select}
+use Rattle.vschema.specs.declared.schema.VSchema.{VSchema}
+use Rattle.vschema.specs.declared.schema.Typed.{Typed}
+use Rattle.vschema.specs.declared.schema.Typed.TheVariants as typed
+use Rattle.vschema.specs.TypedStatement.{typed_statement}
+use Rattle.mysql_packet.specs.Numbers.{little_endian}
+use Rattle.mysql_packet.specs.Frames.{frame}
+use Rattle.mysql_message.specs.declared.command.StatementFault.TheVariants.{UnknownStatement, TooManyStatements, WrongArguments}
+use Rattle.mysql_message.specs.Messages.{Request, prepare, execute, long_data, close, reset_statement, fetch, ok_payload, err_payload, fault_payload}
+use Rattle.resultset.specs.declared.Column as R
+use Rattle.resultset.specs.declared.SetEnd.{SetEnd}
+use Rattle.resultset.specs.PreparedReplies.{prepare_encoded}
+use Rattle.prepared_statements.specs.declared.held.Prepared.{Prepared}
+use Rattle.prepared_statements.specs.Held.{Places, max_statements, held_at, newly_prepared, no_values, AddsHeld, RunsHeld, ClosesHeld, DropsHeld, ResetsHeld}
+use Rattle.prepared_statements.specs.Texts.{MayBePrepared}
+use Rattle.session.specs.conversation.Columns.{AreColumns}
+
+-- a refusal for a name that isn't known, which no value changes
+abbrev pub names_unknown : Refusal → Bool
+names_unknown r.UnknownTable = true
+names_unknown r.UnknownColumn = true
+names_unknown _ = false
+
+abbrev pub is_select : Statement → Bool
+is_select (Select s) = true
+is_select _ = false
+
+-- the columns of the rows of a typed statement: those of a SELECT, and else none
+abbrev pub ShowsTyped : VSchema → Typed → List R.Column → Type 0
+ShowsTyped schema (typed.Select q) columns = AreColumns schema q.table q.join q.items q.qualified columns
+ShowsTyped schema _ columns = columns ≡ []
+
+-- The columns of the rows that a statement gives. Here NULL stands where values will; a write may be refused for that, and shows no columns.
+pub data ShowsColumns (schema : VSchema) (statement : Statement) (columns : List R.Column) : Type 0 where
+  shows : {t : Typed} → typed_statement schema statement ≡ Ok t → ShowsTyped schema t columns → ShowsColumns schema statement columns
+  unsure : {why : Refusal} → typed_statement schema statement ≡ Err why → (is_select statement || names_unknown why) ≡ false → columns ≡ []
+      → ShowsColumns schema statement columns
+
+-- why a text isn't prepared
+pub data NotPrepared (schema : VSchema) (text : List ℕ) : Refusal → Type 0 where
+  no_memory : NotPrepared schema text r.OutOfMemory
+  no_text : ((pieces : List (List ℕ)) (statement : Statement) → MayBePrepared text pieces statement → ⊥) → NotPrepared schema text r.SyntaxError
+  refused : {pieces : List (List ℕ)} {statement : Statement} {why : Refusal} → MayBePrepared text pieces statement → typed_statement schema statement ≡ Err why
+      → (is_select statement || names_unknown why) ≡ true → NotPrepared schema text why
+
+-- What answers a command of prepared statements that runs none, and what is held then. Parts and replies end as `end` says, under this status, from
+-- this sequence number on. If there is no memory to tell of a statement, that is told. Long data isn't taken: its statement is given up.
+pub data AnswersStatement (schema : VSchema) (end : SetEnd) (status number : ℕ) (held : Places) : Request → List ℕ → Places → Type 0 where
+  prepared : {text : List ℕ} {pieces : List (List ℕ)} {statement : Statement} {columns : List R.Column} {n : ℕ} {then : Places}
+      → MayBePrepared text pieces statement → ShowsColumns schema statement columns → AddsHeld held (newly_prepared pieces (no_values pieces)) n then
+      → AnswersStatement schema end status number held (prepare text) (prepare_encoded end n columns (length pieces - 1) number status) then
+  untold : {text : List ℕ} {pieces : List (List ℕ)} {statement : Statement} {n : ℕ} {then : Places} → MayBePrepared text pieces statement
+      → AddsHeld held (newly_prepared pieces (no_values pieces)) n then
+      → AnswersStatement schema end status number held (prepare text) (frame number (err_payload r.OutOfMemory)) then
+  not_prepared : {text : List ℕ} {why : Refusal} → NotPrepared schema text why
+      → AnswersStatement schema end status number held (prepare text) (frame number (err_payload why)) held
+  too_many : {text : List ℕ} → max_statements ≤ length held
+      → AnswersStatement schema end status number held (prepare text) (frame number (fault_payload TooManyStatements)) held
+  unknown : {bytes : List ℕ} → ((n : ℕ) (rest : List ℕ) (q : Prepared) → n < 2 ^ 32 → bytes ≡ little_endian 4 n ++ rest → held_at held n ≡ Some q → ⊥)
+      → AnswersStatement schema end status number held (execute bytes) (frame number (fault_payload UnknownStatement)) held
+  wrong : {bytes : List ℕ} → ((text : List ℕ) (then : Places) → RunsHeld held bytes text then → ⊥)
+      → AnswersStatement schema end status number held (execute bytes) (frame number (fault_payload WrongArguments)) held
+  not_supported : {bytes : List ℕ} → ((text : List ℕ) (then : Places) → RunsHeld held bytes text then → ⊥)
+      → AnswersStatement schema end status number held (execute bytes) (frame number (err_payload r.NotSupported)) held
+  no_memory : {bytes : List ℕ} → AnswersStatement schema end status number held (execute bytes) (frame number (err_payload r.OutOfMemory)) held
+  closed : {bytes : List ℕ} {then : Places} → ClosesHeld held bytes then → AnswersStatement schema end status number held (close bytes) [] then
+  dropped : {bytes : List ℕ} {then : Places} → DropsHeld held bytes then → AnswersStatement schema end status number held (long_data bytes) [] then
+  reset : {bytes : List ℕ} {then : Places} → ResetsHeld held bytes then
+      → AnswersStatement schema end status number held (reset_statement bytes) (frame number (ok_payload 0 status)) then
+  not_reset : {bytes : List ℕ} → ((then : Places) → ResetsHeld held bytes then → ⊥)
+      → AnswersStatement schema end status number held (reset_statement bytes) (frame number (fault_payload UnknownStatement)) held
+  no_memory_to_reset : {bytes : List ℕ} → AnswersStatement schema end status number held (reset_statement bytes) (frame number (err_payload r.OutOfMemory)) held
+  fetched : AnswersStatement schema end status number held fetch (frame number (err_payload r.NotSupported)) held
