@@ -90,22 +90,28 @@ pub(crate) fn framed(alloc: Global, case: &str, told: &mut CaseAnswer) -> Result
     put_packets(told, out.as_slice(), next)
 }
 
+/// Puts a command that has bytes.
+fn put_named(told: &mut CaseAnswer, name: &str, bytes: &[u8]) {
+    told.put(name);
+    told.put_text(bytes);
+}
+
 fn put_command(told: &mut CaseAnswer, command: Command) {
     match command {
         Command::Quit => told.put("quit"),
         Command::Ping => told.put("ping"),
-        Command::InitDb(name) => {
-            told.put("init_db ");
-            told.put_text(name);
-        }
-        Command::Query(text) => {
-            told.put("query ");
-            told.put_text(text);
-        }
+        Command::InitDb(name) => put_named(told, "init_db ", name),
+        Command::Query(text) => put_named(told, "query ", text),
         Command::Statistics => told.put("statistics"),
         Command::MultiStatements(true) => told.put("multi statements on"),
         Command::MultiStatements(false) => told.put("multi statements off"),
         Command::Reset => told.put("reset"),
+        Command::Prepare(text) => put_named(told, "prepare ", text),
+        Command::Execute(bytes) => put_named(told, "execute ", bytes),
+        Command::LongData(bytes) => put_named(told, "long data ", bytes),
+        Command::Close(bytes) => put_named(told, "close ", bytes),
+        Command::ResetStatement(bytes) => put_named(told, "reset statement ", bytes),
+        Command::Fetch => told.put("fetch"),
     }
 }
 
