@@ -5,7 +5,8 @@ use Rattle.std.proofs.lemmas.Option.{none-some}
 use Rattle.mysql_packet.specs.Numbers.{little_endian}
 use Rattle.statement_values.specs.declared.ParameterType.{ParameterType}
 use Rattle.prepared_statements.specs.declared.held.Prepared.{Prepared}
-use Rattle.prepared_statements.specs.Held.{Places, held_at, held_with, held_keeping, keeping, no_long, no_values, newly_prepared, AddsHeld, RunOf, RunsHeld, ClosesHeld, DropsHeld, ResetsHeld}
+use Rattle.prepared_statements.specs.Held.{Places, held_at, held_with, no_long, no_values, newly_prepared, AddsHeld, RunOf, RunsHeld, ClosesHeld, DropsHeld, ResetsHeld}
+use Rattle.prepared_statements.specs.inner.Keeping.{held_keeping, keeping}
 use Rattle.prepared_statements.specs.Held as h
 
 given : Option ℕ → ℕ → ℕ

@@ -42,14 +42,6 @@ pub data RunsHeld (places : Places) : List ℕ → List ℕ → Places → Type 
   runs : {n : ℕ} {rest text : List ℕ} {q : Prepared} {types : List ParameterType} → n < 2 ^ 32 → held_at places n ≡ Some q → RunOf q rest text types
       → RunsHeld places (little_endian 4 n ++ rest) text (held_with places n (Some (after_execution q types)))
 
--- a statement, if there is one, with these types and this long data
-abbrev pub keeping : List ParameterType → List (Option (List ℕ)) → Option Prepared → Option Prepared
-keeping types long None = None
-keeping types long (Some q) = Some (record q { types = types; long = long })
-
-abbrev pub held_keeping : Places → ℕ → List ParameterType → List (Option (List ℕ)) → Places
-held_keeping places n types long = held_with places n (keeping types long (held_at places n))
-
 -- One more statement is held, under the number of a free place, or of a new one after the last.
 pub data AddsHeld (places : Places) (q : Prepared) : ℕ → Places → Type 0 where
   at_free : (n : ℕ) → n < length places → slice_index_or places n None ≡ None → AddsHeld places q (n + 1) (slice_set places n (Some q))

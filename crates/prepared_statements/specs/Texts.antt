@@ -80,9 +80,6 @@ pub record ReadsTried (literal : Value) (pieces : List (List ℕ)) (statement : 
   pub tries : Tries literal pieces values
   pub reads : Reads (filled pieces values) statement
 
-abbrev pub max_holes : ℕ
-max_holes = 4096
-
 -- A text that may be prepared: its holes stand where the grammar has a literal or a count. Where -1 stands, each literal does, and nothing else is
 -- allowed to be -1. The statement is the one with NULL in the holes of literals.
 pub record MayBePrepared (text : List ℕ) (pieces : List (List ℕ)) (statement : Statement) : Type 0 where

@@ -2,7 +2,8 @@
 ghost use Rattle.std.specs.Prelude.{◌≡◌, ◌↔◌, ◌⊎◌, ◌≤◌, ◌<◌, ◌+◌, ℕ, List, [], ◌∷◌, ◌++◌, map, option_map, length, slice_index_or, slice_set, Option, Some, None, suc, Err, IfOk, IfErr, IfSome, OnOk, OnErr};
 ghost use Rattle.statement_values.specs.declared.ParameterType.{ParameterType as KindOfValue};
 ghost use Rattle.prepared_statements.specs.inner.Cutting.{not_read};
-ghost use Rattle.prepared_statements.specs.Held.{Places, held_at, no_long, no_values, none_each, keeping, RunOf, RunsHeld, ClosesHeld, ResetsHeld, AddsHeld};
+ghost use Rattle.prepared_statements.specs.Held.{Places, held_at, no_long, no_values, none_each, RunOf, RunsHeld, ClosesHeld, ResetsHeld, AddsHeld};
+ghost use Rattle.prepared_statements.specs.inner.Keeping.{keeping};
 
 use crate::bytes::{number_at, only_number};
 use crate::filling::{filled, first_piece};
@@ -214,7 +215,8 @@ impl Held {
     ghost use Rattle.std.specs.Prelude.{◌≡◌, ◌⊎◌, ◌≤◌, ◌<◌, ◌^◌, ℕ, List, [], ◌∷◌, ◌++◌, length, option_copied, Some, None, IfOk, IfErr, IfSome, OnOk, OnErr, ◌+◌, slice_index_or, slice_set};
     ghost use Rattle.mysql_packet.specs.Numbers.{little_endian};
     ghost use Rattle.prepared_statements.specs.declared.held.Prepared.{Prepared as PreparedView};
-    ghost use Rattle.prepared_statements.specs.Held.{Places, max_statements, held_at, held_with, held_keeping, no_long, newly_prepared, no_values, AddsHeld, RunOf, RunsHeld, ClosesHeld, DropsHeld, ResetsHeld};
+    ghost use Rattle.prepared_statements.specs.Held.{Places, max_statements, held_at, held_with, no_long, newly_prepared, no_values, AddsHeld, RunOf, RunsHeld, ClosesHeld, DropsHeld, ResetsHeld};
+    ghost use Rattle.prepared_statements.specs.inner.Keeping.{held_keeping};
     ghost use Rattle.statement_values.specs.declared.ParameterType.{ParameterType as KindOfValue};
 
     /// None.
