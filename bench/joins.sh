@@ -6,7 +6,7 @@
 # folder of its own.
 set -euo pipefail
 top=$(cd "$(dirname "$0")/.." && pwd)
-. "$top/scripts/program.sh"
+. "$top/bench/choices.sh"
 rows=100000 rounds=3 document=() program=''
 while [ $# -gt 0 ]; do
     case $1 in
@@ -18,9 +18,8 @@ while [ $# -gt 0 ]; do
     esac
     shift
 done
-have_packages mariadb-server mariadb-client
 program=$(program_of vtgate_main "$program")
 work=$(mktemp -d)
 trap 'rm -rf "$work"' EXIT
 python3 "$top/bench/joins/measure.py" "$(realpath "$program")" "$work" --rows "$rows" --rounds "$rounds" \
-    --version "$(dpkg-query -W -f '${Version}' mariadb-server)" "${document[@]}"
+    --version "$(mariadb_version)" "${document[@]}"

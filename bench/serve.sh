@@ -8,7 +8,7 @@
 # folder of its own.
 set -euo pipefail
 top=$(cd "$(dirname "$0")/.." && pwd)
-. "$top/scripts/program.sh"
+. "$top/bench/choices.sh"
 kinds=point,insert,update,scatter,mix,transaction,first,among connections=1,2,4,8,16,32 rounds=9 seconds=0.35 rows=20000 document=() program=''
 while [ $# -gt 0 ]; do
     case $1 in
@@ -28,9 +28,9 @@ have_packages mariadb-server mariadb-client
 program=$(program_of vtgate_main "$program")
 work=$(mktemp -d)
 trap 'rm -rf "$work"' EXIT
-"${CC:-cc}" -O2 -Wall -Wextra -D_GNU_SOURCE -o "$work/load" "$top/bench/serve/load.c" -lpthread
+compile_load "$work/load"
 python3 "$top/bench/serve/measure.py" "$(realpath "$program")" "$work/load" "$work" \
     --kinds "$kinds" --connections "$connections" --rounds "$rounds" --seconds "$seconds" --rows "$rows" | tee "$work/cells" >&2
 how="$rounds rounds of $seconds seconds"
-version=$(dpkg-query -W -f '${Version}' mariadb-server)
+version=$(mariadb_version)
 python3 "$top/bench/serve/tables.py" "$work/cells" "$how" "$rows" "$version" "${document[@]}"

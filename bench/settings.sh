@@ -4,20 +4,11 @@
 # Usage: bench/settings.sh [--write] [--rounds N] [--seconds S] [PROGRAM]   (proved and built if none is given)
 set -euo pipefail
 top=$(cd "$(dirname "$0")/.." && pwd)
-. "$top/scripts/program.sh"
-choices=() program=''
-while [ $# -gt 0 ]; do
-    case $1 in
-        --write) choices+=(--document "$top/docs/PERFORMANCE.md") ;;
-        --rounds | --seconds) choices+=("$1" "$2") && shift ;;
-        -*) echo "no such choice: $1" >&2 && exit 2 ;;
-        *) program=$1 ;;
-    esac
-    shift
-done
+. "$top/bench/choices.sh"
+read_choices "--rounds --seconds" "$@"
 have_packages libtcmalloc-minimal4
 program=$(program_of vtgate_main "$program")
 work=$(mktemp -d)
 trap 'rm -rf "$work"' EXIT
-"${CC:-cc}" -O2 -Wall -Wextra -D_GNU_SOURCE -o "$work/load" "$top/bench/serve/load.c" -lpthread
+compile_load "$work/load"
 python3 "$top/bench/settings/measure.py" "$(realpath "$program")" "$work/load" "${choices[@]}"

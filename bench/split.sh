@@ -7,7 +7,7 @@
 # PROGRAM is proved and built if none is given. Needs a C compiler, but not for the scenes.
 set -euo pipefail
 top=$(cd "$(dirname "$0")/.." && pwd)
-. "$top/scripts/program.sh"
+. "$top/bench/choices.sh"
 scenes=0 rows=1000,10000,100000 rounds='' seconds='' only=() document=() program=''
 while [ $# -gt 0 ]; do
     case $1 in
@@ -26,7 +26,7 @@ program=$(realpath "$(program_of vtgate_main "$program")")
 if [ $scenes = 0 ]; then
     work=$(mktemp -d)
     trap 'rm -rf "$work"' EXIT
-    "${CC:-cc}" -O2 -Wall -Wextra -D_GNU_SOURCE -o "$work/load" "$top/bench/serve/load.c" -lpthread
+    compile_load "$work/load"
     python3 "$top/bench/split/measure.py" "$program" "$work/load" --rows "$rows" --rounds "${rounds:-5}" --seconds "${seconds:-2}" "${document[@]}"
 fi
 python3 "$top/bench/split/scenes.py" "$program" --rows "${rows##*,}" --rounds "${rounds:-3}" --seconds "${seconds:-5}" "${only[@]}" "${document[@]}"

@@ -5,16 +5,7 @@
 # Usage: bench/threads.sh [--write] [--seconds N] [PROGRAM]   (proved and built if none is given)
 set -euo pipefail
 top=$(cd "$(dirname "$0")/.." && pwd)
-. "$top/scripts/program.sh"
-choices=() program=''
-while [ $# -gt 0 ]; do
-    case $1 in
-        --write) choices+=(--document "$top/docs/PERFORMANCE.md") ;;
-        --seconds | --rows) choices+=("$1" "$2") && shift ;;
-        -*) echo "no such choice: $1" >&2 && exit 2 ;;
-        *) program=$1 ;;
-    esac
-    shift
-done
+. "$top/bench/choices.sh"
+read_choices "--seconds --rows" "$@"
 program=$(program_of vtgate_main "$program")
 python3 "$top/bench/threads/measure.py" "$(realpath "$program")" "${choices[@]}"

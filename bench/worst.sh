@@ -5,18 +5,8 @@
 # Usage: bench/worst.sh [--write] [--rows N] [--rounds N] [PROGRAM]   (proved and built if none is given)
 set -euo pipefail
 top=$(cd "$(dirname "$0")/.." && pwd)
-. "$top/scripts/program.sh"
-choices=() program=''
-while [ $# -gt 0 ]; do
-    case $1 in
-        --write) choices+=(--document "$top/docs/PERFORMANCE.md") ;;
-        --rows | --rounds) choices+=("$1" "$2") && shift ;;
-        -*) echo "no such choice: $1" >&2 && exit 2 ;;
-        *) program=$1 ;;
-    esac
-    shift
-done
-have_packages mariadb-server mariadb-client
+. "$top/bench/choices.sh"
+read_choices "--rows --rounds" "$@"
 program=$(program_of vtgate_main "$program")
-choices+=(--version "$(dpkg-query -W -f '${Version}' mariadb-server)")
+choices+=(--version "$(mariadb_version)")
 python3 "$top/bench/worst/measure.py" "$(realpath "$program")" "${choices[@]}"
