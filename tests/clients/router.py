@@ -33,14 +33,14 @@ def stage2(password):
 
 
 class Router:
-    """`vtgate serve` over the tables of examples/shop.json, until the `with` ends."""
+    """`vtgate serve` over the tables of examples/shop.json, or of another VSchema, until the `with` ends."""
 
-    def __init__(self, program, password="", workers=4, buffer=8, connections=0, descriptors=1024, host="127.0.0.1"):
+    def __init__(self, program, password="", workers=4, buffer=8, connections=0, descriptors=1024, host="127.0.0.1", schema=SCHEMA):
         self.port, self.admin_port = free_ports(2)
         words = ["serve", SHARDS, f"{host}:{self.port}", f"127.0.0.1:{self.admin_port}", str(workers), str(buffer), str(connections)]
         self.process = subprocess.Popen(
             [program, *words, USER, stage2(password), "a nonce of the tests"],
-            stdin=SCHEMA.open(),
+            stdin=schema.open(),
             stdout=subprocess.PIPE,
             stderr=subprocess.PIPE,
             preexec_fn=lambda: resource.setrlimit(resource.RLIMIT_NOFILE, (descriptors, descriptors)),
