@@ -1,8 +1,12 @@
 // Runs the lines on standard input by MariaDB Connector/J, and prints the outcome of each, with an empty line after it.
-// Usage: java -cp mariadb-java-client.jar ByJava.java PORT USER PASSWORD DATABASE
+// Usage: java -cp mariadb-java-client.jar ByJava.java PORT USER PASSWORD DATABASE [OPTIONS]
+// With options the characters of bound texts are bytes, as in the list `prepared`.
 
 import java.io.BufferedReader;
+import java.io.ByteArrayInputStream;
 import java.io.InputStreamReader;
+import java.math.BigDecimal;
+import java.math.BigInteger;
 import java.nio.charset.StandardCharsets;
 import java.sql.Connection;
 import java.sql.DriverManager;
@@ -17,7 +21,11 @@ import java.util.regex.Matcher;
 import java.util.regex.Pattern;
 
 public class ByJava {
-    private static final Pattern BOUND = Pattern.compile("@(?:bind|typed) \\[(.*?)\\] (.*)");
+    private static final Pattern BOUND = Pattern.compile("@(bind|typed|long|kept) \\[(.*?)\\](?: (.*))?");
+    private static final Pattern VALUE = Pattern.compile("\"(?:[^\"\\\\]|\\\\.)*\"|-?\\d+|null");
+    private static final Pattern ESCAPE = Pattern.compile("\\\\(u[0-9a-f]{4}|.)");
+    private static boolean hasBytes = false;
+    private static PreparedStatement kept = null;
 
     private static String text(byte[] bytes) {
         StringBuilder text = new StringBuilder("'");
@@ -47,21 +55,47 @@ public class ByJava {
         return lines;
     }
 
-    private static List<String> bound(Connection connection, String values, String text) throws SQLException {
-        try (PreparedStatement statement = connection.prepareStatement(text)) {
-            int at = 1;
-            for (String each : values.split(", *")) {
-                if (each.equals("null")) statement.setObject(at++, null);
-                else if (each.startsWith("\"")) statement.setString(at++, each.substring(1, each.length() - 1).replace("\\\\", "\\"));
-                else statement.setLong(at++, Long.parseLong(each));
-            }
-            return statement.execute() ? shown(statement.getResultSet()) : List.of("ok " + statement.getLargeUpdateCount());
+    private static String unescaped(String text) {
+        Matcher escape = ESCAPE.matcher(text);
+        return escape.replaceAll(it -> {
+            String code = it.group(1);
+            String told = code.length() == 5 ? String.valueOf((char) Integer.parseInt(code.substring(1), 16)) : code.equals("n") ? "\n" : code;
+            return Matcher.quoteReplacement(told);
+        });
+    }
+
+    private static void bind(PreparedStatement statement, int at, String value, boolean isLong) throws SQLException {
+        if (value.equals("null")) {
+            statement.setObject(at, null);
+        } else if (!value.startsWith("\"")) {
+            BigInteger number = new BigInteger(value);
+            if (number.bitLength() < 64) statement.setLong(at, number.longValue());
+            else statement.setBigDecimal(at, new BigDecimal(number));
+        } else {
+            String text = unescaped(value.substring(1, value.length() - 1));
+            byte[] bytes = text.getBytes(StandardCharsets.ISO_8859_1);
+            if (isLong) statement.setBinaryStream(at, new ByteArrayInputStream(bytes));
+            else if (hasBytes) statement.setBytes(at, bytes);
+            else statement.setString(at, text);
+        }
+    }
+
+    private static List<String> executed(PreparedStatement statement, String values, boolean isLong) throws SQLException {
+        Matcher value = VALUE.matcher(values);
+        for (int at = 1; value.find(); at++) bind(statement, at, value.group(), isLong);
+        return statement.execute() ? shown(statement.getResultSet()) : List.of("ok " + statement.getLargeUpdateCount());
+    }
+
+    private static List<String> bound(Connection connection, Matcher line) throws SQLException {
+        if (line.group(1).equals("kept")) return executed(kept, line.group(2), false);
+        try (PreparedStatement statement = connection.prepareStatement(line.group(3))) {
+            return executed(statement, line.group(2), line.group(1).equals("long"));
         }
     }
 
     private static List<String> run(Connection connection, String line) throws SQLException {
         Matcher values = BOUND.matcher(line);
-        if (values.matches()) return bound(connection, values.group(1), values.group(2));
+        if (values.matches()) return bound(connection, values);
         switch (line) {
             case "@off": connection.setAutoCommit(false); break;
             case "@on": connection.setAutoCommit(true); break;
@@ -69,6 +103,11 @@ public class ByJava {
             case "@rollback": connection.rollback(); break;
             case "@ping": return List.of(connection.isValid(10) ? "ok 0" : "ERROR no ping");
             default:
+                if (line.equals("@pause")) break;
+                if (line.startsWith("@keep ")) {
+                    kept = connection.prepareStatement(line.substring(6));
+                    break;
+                }
                 if (line.startsWith("@use ")) {
                     connection.setCatalog(line.substring(5));
                     break;
@@ -95,7 +134,9 @@ public class ByJava {
     }
 
     private static Connection connected(String[] words) throws SQLException {
-        return DriverManager.getConnection("jdbc:mariadb://127.0.0.1:" + words[0] + "/" + words[3], words[1], words[2]);
+        String options = words.length > 4 ? words[4] : "";
+        hasBytes = !options.isEmpty();
+        return DriverManager.getConnection("jdbc:mariadb://127.0.0.1:" + words[0] + "/" + words[3] + options, words[1], words[2]);
     }
 
     public static void main(String[] words) throws Exception {

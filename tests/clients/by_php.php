@@ -1,6 +1,6 @@
 <?php
 // Runs the lines on standard input by PHP's mysqli or PDO, and prints the outcome of each, with an empty line after it.
-// Usage: by_php.php mysqli|PDO PORT USER PASSWORD DATABASE
+// Usage: by_php.php mysqli|PDO|Prepared|PreparedPDO PORT USER PASSWORD DATABASE   (the last two run the list `prepared`)
 
 function value($it, $is_text) {
     if ($it === null) return 'NULL';
@@ -13,6 +13,7 @@ function shown($rows, $are_texts) {
     return [...$lines, 'rows ' . count($rows)];
 }
 
+#[AllowDynamicProperties]
 class ByMysqli {
     function __construct($port, $user, $password, $database) {
         $this->connection = new mysqli('127.0.0.1', $user, $password, $database, (int) $port);
@@ -38,6 +39,7 @@ class ByMysqli {
     function ping() { return $this->told($this->connection->ping()); }
 }
 
+#[AllowDynamicProperties]
 class ByPDO {
     function __construct($port, $user, $password, $database) {
         $this->connection = new PDO("mysql:host=127.0.0.1;port=$port" . ($database ? ";dbname=$database" : ''), $user, $password);
@@ -73,6 +75,53 @@ class ByPDO {
     function on() { return $this->told($this->connection->setAttribute(PDO::ATTR_AUTOCOMMIT, 1)); }
 }
 
+// What the characters of a text are as bytes, and values as they are bound: what has no 64 bits with a sign is a text.
+function bytes($values) {
+    return array_map(fn ($it) => is_string($it) ? mb_convert_encoding($it, 'ISO-8859-1', 'UTF-8') : $it, $values);
+}
+
+class ByPrepared extends ByMysqli {
+    function executed($statement, $values, $is_long = false) {
+        $types = implode('', array_map(fn ($it) => is_int($it) ? 'i' : ($is_long ? 'b' : 's'), $values));
+        $bound = $is_long ? array_fill(0, count($values), null) : bytes($values);
+        if ($values) $statement->bind_param($types, ...$bound);
+        foreach ($is_long ? bytes($values) : [] as $at => $each) {
+            foreach (str_split($each, 7) as $piece) $statement->send_long_data($at, $piece);
+        }
+        $statement->execute();
+        return $statement->field_count ? $this->shown($statement->get_result()) : ["ok $statement->affected_rows"];
+    }
+    function bind($text, $values) { return $this->executed($this->connection->prepare($text), $values); }
+    function long($text, $values) { return $this->executed($this->connection->prepare($text), $values, true); }
+    function keep($text) {
+        $this->kept = $this->connection->prepare($text);
+        return ['ok 0'];
+    }
+    function kept($text, $values) { return $this->executed($this->kept, $values); }
+    function pause() { return ['ok 0']; }
+}
+
+class ByPreparedPDO extends ByPDO {
+    function __construct($port, $user, $password, $database) {
+        parent::__construct($port, $user, $password, $database);
+        $this->connection->setAttribute(PDO::ATTR_EMULATE_PREPARES, false);
+    }
+    function executed($statement, $values) {
+        foreach (bytes($values) as $at => $each) {
+            $statement->bindValue($at + 1, $each, is_int($each) ? PDO::PARAM_INT : ($each === null ? PDO::PARAM_NULL : PDO::PARAM_STR));
+        }
+        $statement->execute();
+        return $this->shown($statement);
+    }
+    function bind($text, $values) { return $this->executed($this->connection->prepare($text), $values); }
+    function keep($text) {
+        $this->kept = $this->connection->prepare($text);
+        return ['ok 0'];
+    }
+    function kept($text, $values) { return $this->executed($this->kept, $values); }
+    function pause() { return ['ok 0']; }
+}
+
 function refusal($error) {
     if ($error instanceof mysqli_sql_exception) return ["ERROR {$error->getCode()} ({$error->getSqlState()}): {$error->getMessage()}"];
     if ($error instanceof PDOException && $error->errorInfo) return ["ERROR {$error->errorInfo[1]} ({$error->errorInfo[0]}): {$error->errorInfo[2]}"];
@@ -82,8 +131,11 @@ function refusal($error) {
 function outcome($client, $line) {
     try {
         if ($line[0] != '@') return $client->query($line);
-        if (preg_match('/^@(bind|typed) (\[.*?\]) (.*)$/', $line, $parts)) return $client->{$parts[1]}($parts[3], json_decode($parts[2]));
-        [$call, $word] = explode(' ', substr($line, 1) . ' ');
+        if (preg_match('/^@(bind|typed|long|kept) (\[.*?\])(?: (.*))?$/', $line, $parts)) {
+            return $client->{$parts[1]}($parts[3] ?? '', json_decode($parts[2], false, 9, JSON_BIGINT_AS_STRING));
+        }
+        [$call, $word] = explode(' ', substr($line, 1) . ' ', 2);
+        $word = rtrim($word);
         return $client->$call($word);
     } catch (Exception $error) {
         return refusal($error);

@@ -1,10 +1,10 @@
 # Runs the lines on standard input by Ruby's mysql2, and prints the outcome of each, with an empty line after it.
-# Usage: by_ruby.rb PORT USER PASSWORD DATABASE
+# Usage: by_ruby.rb PORT USER PASSWORD DATABASE [bytes]   (bytes: the characters of bound texts are bytes, as in the list `prepared`)
 require 'bigdecimal'
 require 'json'
 require 'mysql2'
 
-TEXTS = { '@off' => 'SET autocommit = 0', '@on' => 'SET autocommit = 1', '@begin' => 'BEGIN', '@commit' => 'COMMIT', '@rollback' => 'ROLLBACK' }
+TEXTS = { '@pause' => 'ROLLBACK', '@off' => 'SET autocommit = 0', '@on' => 'SET autocommit = 1', '@begin' => 'BEGIN', '@commit' => 'COMMIT', '@rollback' => 'ROLLBACK' }
 
 def value(it)
   return 'NULL' if it.nil?
@@ -19,11 +19,19 @@ def shown(client, result)
   rows + ["rows #{rows.size}"]
 end
 
+def executed(client, statement, values)
+  values = JSON.parse(values).map { |it| it.is_a?(String) && $has_bytes ? it.codepoints.pack('C*') : it }
+  result = statement.execute(*values, as: :array)
+  result.nil? ? ["ok #{statement.affected_rows}"] : shown(client, result)
+end
+
 def run(client, line)
   case line
   when '@ping' then client.ping ? ['ok 0'] : ['ERROR ping']
   when /\A@use (.*)/ then client.select_db($1) && ['ok 0']
-  when /\A@bind (\[.*?\]) (.*)/ then shown(client, client.prepare($2).execute(*JSON.parse($1), as: :array))
+  when /\A@bind (\[.*?\]) (.*)/ then executed(client, client.prepare($2), $1)
+  when /\A@keep (.*)/ then ($kept = client.prepare($1)) && ['ok 0']
+  when /\A@kept (.*)/ then executed(client, $kept, $1)
   else shown(client, client.query(TEXTS.fetch(line, line), as: :array))
   end
 end
@@ -36,7 +44,9 @@ rescue Mysql2::Error => error
   refusal(error)
 end
 
-port, user, password, database = ARGV
+port, user, password, database, bytes = ARGV
+$has_bytes = bytes
+$stdout.sync = true
 connected = -> { Mysql2::Client.new(host: '127.0.0.1', port: port.to_i, username: user, password: password, database: database) }
 begin
   client = connected.call

@@ -180,6 +180,20 @@ DBD_MARIADB = by_name("DBD::MariaDB", "@prepare")
 # These run `statements` too. SQLAlchemy 1.4 doesn't: it sends COMMIT after each write that isn't in a transaction of its own.
 ALSO = tuple(by_name(it.name) for it in BY_DEFAULT if it.name not in ("PyMySQL", "go-sql-driver", "DBD::mysql", "DBD::MariaDB", "SQLAlchemy"))
 
+# These run the list `prepared`. Who has no call for long data doesn't send it.
+PREPARED_CALLS = ("@bind", "@keep", "@kept", "@pause", "@begin", "@commit", "@rollback", "@other")
+PREPARED = (
+    Library("prepared go-sql-driver", PREPARED_CALLS, (str(BUILT / "by_go"),), ("bytes",), has_states=False),
+    Library("prepared Connector/J", (*PREPARED_CALLS, "@long"), ("java", "-cp", f"{BUILT}:{JAR}", "ByJava"), ("?useServerPrepStmts=true",)),
+    Library("prepared mysqli", (*PREPARED_CALLS, "@long"), script("php", "by_php.php", "Prepared")),
+    Library("prepared PDO", PREPARED_CALLS, script("php", "by_php.php", "PreparedPDO")),
+    Library("prepared mysql2", PREPARED_CALLS, script("ruby", "by_ruby.rb"), ("bytes",)),
+    Library("prepared C", (*PREPARED_CALLS, "@long"), (str(BUILT / "by_c_prepared"),)),
+    Library("pyodbc", PREPARED_CALLS, script(PYTHON, "by_odbc.py")),
+    Library("tdbc::mysql", PREPARED_CALLS, script("tclsh", "by_tdbc.tcl")),
+    Library("lua-dbi", PREPARED_CALLS, script("lua5.4", "by_lua_dbi.lua"), has_numbers=False, has_states=False, has_quotes=False, is_exact=False),
+)
+
 # The packages of Debian that each needs.
 PACKAGES = {
     "mariadb": ("mariadb-client",),
@@ -205,6 +219,7 @@ PACKAGES = {
     "Sequel": ("ruby", "ruby-sequel", "ruby-mysql2"),
     "tdbc::mysql": ("tcl8.6", "tcl8.6-tdbc-mysql"),
     "RMySQL": ("r-base-core", "r-cran-rmysql"),
+    "lua-dbi": ("lua5.4", "lua-dbi-mysql"),
 }
 
 # How the compiled ones are made.
@@ -212,7 +227,7 @@ C_FLAGS = "$(mariadb_config --cflags) $(mariadb_config --libs)"
 BUILDS = {
     "go-sql-driver": f"cd {HERE}/go_sql_driver && GO111MODULE=off GOPATH=/usr/share/gocode go build -o {BUILT}/by_go .",
     "Connector/J": f"javac -d {BUILT} {HERE}/ByJava.java",
-    "C": f"gcc -Wall -Wextra -Werror -O1 {HERE}/by_c.c -o {BUILT}/by_c {C_FLAGS}",
+    "C": " && ".join(f"gcc -Wall -Wextra -Werror -O1 {HERE}/{it}.c -o {BUILT}/{it} {C_FLAGS}" for it in ("by_c", "by_c_prepared")),
 }
 
 

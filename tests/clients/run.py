@@ -14,6 +14,7 @@ import traceback
 import asks
 import libraries
 import packets
+import prepared
 from libraries import ALSO, BY_DEFAULT, COMMAND_LINE, DBD_MARIADB, DBD_MYSQL, GO, PYMYSQL, PYTHON
 from packets import error_of
 from router import SCHEMA, SHARDS, TOP, USER, Router, free_ports
@@ -627,6 +628,9 @@ def main():
         attempt(runs_the_list, program, library, STATEMENTS, PASSWORD, "shop")
         attempt(refuses_logins, program, library)
         attempt(runs_long_texts, program, library)
+    for library in libraries.PREPARED:
+        if library.name.removeprefix("prepared ") not in not_ready:
+            attempt(prepared.runs_prepared, program, library, check)
     attempt(shows_what_is_asked, program, not_ready)
     for test in (
         switches_plugins,

@@ -10,6 +10,7 @@ import (
 	"errors"
 	"fmt"
 	"os"
+	"strconv"
 	"strings"
 
 	"github.com/go-sql-driver/mysql"
@@ -66,12 +67,32 @@ func read(rows *sql.Rows) ([]string, error) {
 	return append(lines, fmt.Sprintf("rows %d", len(lines))), rows.Err()
 }
 
+func numberOf(number json.Number) interface{} {
+	if it, err := number.Int64(); err == nil {
+		return it
+	}
+	it, _ := strconv.ParseUint(number.String(), 10, 64)
+	return it
+}
+
+// A text whose bytes are the characters of another.
+func bytesOf(text string) string {
+	bytes := []byte{}
+	for _, each := range text {
+		bytes = append(bytes, byte(each))
+	}
+	return string(bytes)
+}
+
+// Whether the characters of bound texts are bytes, as in the list `prepared`.
+var hasBytes bool
+
 // The text of a line, and the values for it.
 func bound(line string) (string, []interface{}, error) {
 	if line[0] != '@' {
 		return line, nil, nil
 	}
-	begin, end := strings.Index(line, "["), strings.Index(line, "] ")
+	begin, end := strings.Index(line, "["), strings.Index(line+" ", "] ")
 	reader := json.NewDecoder(strings.NewReader(line[begin : end+1]))
 	reader.UseNumber()
 	var values []interface{}
@@ -80,18 +101,22 @@ func bound(line string) (string, []interface{}, error) {
 	}
 	for at, it := range values {
 		if number, is := it.(json.Number); is {
-			values[at], _ = number.Int64()
+			values[at] = numberOf(number)
 		} else if text, is := it.(string); is && strings.HasPrefix(line, "@bytes ") {
 			values[at] = []byte(text)
+		} else if is && hasBytes {
+			values[at] = bytesOf(text)
 		}
 	}
-	return line[end+2:], values, nil
+	return strings.TrimPrefix(line[end+1:], " "), values, nil
 }
 
-// A connection of its own, and its transaction if Begin has begun one.
+// A connection of its own, its transaction if Begin has begun one, and a prepared statement if it keeps one.
 type client struct {
 	*sql.Conn
 	transaction *sql.Tx
+	kept        *sql.Stmt
+	hasRows     bool
 }
 
 func connected(place string) (*client, error) {
@@ -100,7 +125,7 @@ func connected(place string) (*client, error) {
 		return nil, err
 	}
 	connection, err := pool.Conn(context.Background())
-	return &client{connection, nil}, err
+	return &client{Conn: connection}, err
 }
 
 // What the driver has a call for.
@@ -124,7 +149,7 @@ func (connection *client) call(line string) (bool, error) {
 	return true, transaction.Rollback()
 }
 
-var texts = map[string]string{"@off": "SET autocommit = 0", "@on": "SET autocommit = 1", "@commit": "COMMIT", "@rollback": "ROLLBACK"}
+var texts = map[string]string{"@pause": "ROLLBACK", "@off": "SET autocommit = 0", "@on": "SET autocommit = 1", "@commit": "COMMIT", "@rollback": "ROLLBACK"}
 
 func run(connection *client, line string) ([]string, error) {
 	begin := context.Background()
@@ -134,29 +159,46 @@ func run(connection *client, line string) ([]string, error) {
 	if text, is := texts[line]; is {
 		line = text
 	}
+	if strings.HasPrefix(line, "@keep ") {
+		return []string{"ok 0"}, connection.keep(line[len("@keep "):])
+	}
 	text, values, err := bound(line)
 	if err != nil {
 		return nil, err
 	}
 	if strings.HasPrefix(line, "@prepare ") {
-		statement, err := connection.PrepareContext(begin, text)
-		if err != nil {
+		if err := connection.keep(text); err != nil {
 			return nil, err
 		}
-		rows, err := statement.QueryContext(begin, values...)
-		if err != nil {
-			return nil, err
-		}
-		return read(rows)
 	}
-	if strings.HasPrefix(strings.ToUpper(text), "SELECT") {
-		rows, err := connection.QueryContext(begin, text, values...)
-		if err != nil {
-			return nil, err
+	if strings.HasPrefix(line, "@prepare ") || strings.HasPrefix(line, "@kept ") {
+		if connection.hasRows {
+			return rowsOf(connection.kept.QueryContext(begin, values...))
 		}
-		return read(rows)
+		return countOf(connection.kept.ExecContext(begin, values...))
 	}
-	result, err := connection.ExecContext(begin, text, values...)
+	if isSelect(text) {
+		return rowsOf(connection.QueryContext(begin, text, values...))
+	}
+	return countOf(connection.ExecContext(begin, text, values...))
+}
+
+func isSelect(text string) bool { return strings.HasPrefix(strings.ToUpper(text), "SELECT") }
+
+func (connection *client) keep(text string) (err error) {
+	connection.kept, err = connection.PrepareContext(context.Background(), text)
+	connection.hasRows = isSelect(text)
+	return
+}
+
+func rowsOf(rows *sql.Rows, err error) ([]string, error) {
+	if err != nil {
+		return nil, err
+	}
+	return read(rows)
+}
+
+func countOf(result sql.Result, err error) ([]string, error) {
 	if err != nil {
 		return nil, err
 	}
@@ -173,7 +215,11 @@ func outcome(connection *client, line string) []string {
 }
 
 func main() {
-	place := fmt.Sprintf("%s:%s@tcp(127.0.0.1:%s)/%s%s", os.Args[2], os.Args[3], os.Args[1], os.Args[4], strings.Join(os.Args[5:], ""))
+	options := strings.Join(os.Args[5:], "")
+	if options == "bytes" {
+		hasBytes, options = true, ""
+	}
+	place := fmt.Sprintf("%s:%s@tcp(127.0.0.1:%s)/%s%s", os.Args[2], os.Args[3], os.Args[1], os.Args[4], options)
 	first, err := connected(place)
 	if err != nil {
 		fmt.Println(refused(err))
