@@ -26,7 +26,7 @@ settings.configure(DATABASES={"default": place})
 from django.db import connection
 connection.cursor().execute("SELECT COUNT(*) FROM u")
 """
-ODBC = "import pyodbc; pyodbc.connect('DRIVER=libmaodbc.so;SERVER=127.0.0.1;PORT=%PORT%;DATABASE=shop;UID=app').execute('SELECT n FROM u')"
+ODBC = "import pyodbc; it = pyodbc.connect('DRIVER=libmaodbc.so;SERVER=127.0.0.1;PORT=%PORT%;DATABASE=shop;UID=app'); "
 SEQUEL = "require 'sequel'; it = Sequel.connect(adapter: 'mysql2', host: '127.0.0.1', port: %PORT%, user: 'app', database: 'shop'); p it[:u].all"
 ALCHEMY = "import sqlalchemy as s; it = s.create_engine('mysql+pymysql://app@127.0.0.1:%PORT%/shop'); "
 MAPPED = "T = s.table('t', s.column('id'), s.column('c')); "
@@ -130,12 +130,12 @@ ASKS = (
     ("aiomysql", python(AIOMYSQL), "((0,),)"),
     ("SQLAlchemy", python(ALCHEMY + MAPPED + "print(it.connect().execute(s.select(T).where(T.c.id == 4)).all())"), "[]"),
     ("SQLAlchemy", python(ALCHEMY + MAPPED + "print(it.connect().execute(T.insert().values(id=4, c=1)).rowcount)"), "1"),
-    ("SQLAlchemy", python(ALCHEMY + MAPPED + "it.connect().execute(T.delete().where(T.c.id == 4))"), "(Background on this error at: https://sqlalche.me/e/14/f405)"),
+    ("SQLAlchemy", python(ALCHEMY + MAPPED + "print(it.connect().execute(T.delete().where(T.c.id == 4)).rowcount)"), "1"),
     ("SQLAlchemy", python(ALCHEMY + "s.inspect(it).get_table_names()"), "TypeError: a bytes-like object is required, not 'str'"),
     ("peewee", python(PEEWEE + PEEWEE_END), "peewee.NotSupportedError: (1235, 'not supported')"),
     ("peewee", python(PEEWEE.replace("'shop'", "'shop', sql_mode=''") + PEEWEE_END), "((0,),)"),
     ("Django", python(DJANGO), "django.db.utils.ProgrammingError: (1064, 'syntax error')"),
-    ("pyodbc", python(ODBC), "pyodbc.OperationalError: ('08S01', '[08S01] [ma-3.1.15][8.0.0-router]unknown command (1047) (SQLExecDirectW)')"),
+    ("pyodbc", python(ODBC + "print(it.execute('SELECT n FROM u').fetchall())"), "[]"),
     ("Sequel", ("ruby", "-e", "begin; " + SEQUEL + "; rescue => e; puts e.message; end"), "Mysql2::Error: not supported"),
     ("Sequel", ("ruby", "-e", SEQUEL.replace("'shop'", "'shop', timeout: 28800")), "[]"),
     ("DBD::mysql", perl("mysql", TWO), "DBD::mysql::db commit failed: conflict at -e line 1."),
@@ -150,7 +150,7 @@ ASKS = (
     ("mysqli", ("php", "-r", MYSQLI + "var_dump($it->savepoint('x'));"), "bool(false)"),
     ("mysqli", ("php", "-r", MYSQLI + "var_dump($it->release_savepoint('x'));"), "bool(false)"),
     ("mysqli", ("php", "-r", MYSQLI + "var_dump($it->begin_transaction(0, 'name'));"), "bool(true)"),
-    ("mysqli", ("php", "-r", MYSQLI + "try { $it->commit(0, 'name'); } catch (Exception $e) { echo $e->getCode(); }"), "1064"),
+    ("mysqli", ("php", "-r", MYSQLI + "var_dump($it->commit(0, 'name'));"), "bool(true)"),
     ("mysqli", ("php", "-r", MYSQLI + "try { $it->multi_query('SELECT id FROM t; SELECT id FROM t'); } catch (Exception $e) { echo $e->getCode(); }"), "1064"),
     ("mysqli", ("php", "-r", KEPT + "$it->close(); " + KEPT + "echo $it->query('SELECT n FROM u')->num_rows;"), "0"),
     ("mysqli", ("php", "-r", MYSQLI + "$it->begin_transaction(); var_dump($it->begin_transaction());"), "bool(false)"),
@@ -170,7 +170,7 @@ ASKS = (
     ("node mysql", (*NODE, "-e", JS + "it.changeUser({user: 'app'}" + JS_END), "ER_UNKNOWN_COM_ERROR: unknown command"),
     ("mysqltcl", tcl(TCL + "catch {mysql::col $it t name} told; puts $told"), "mysql::col/db server: unknown command"),
     ("mysqltcl", tcl(TCL + "catch {mysql::changeuser $it app {} base} told; puts $told"), "mysql::changeuser/db server: unknown command"),
-    ("tdbc::mysql", tcl(TDBC + "catch {$it allrows {SELECT c FROM t}} told; puts $told"), "unknown command"),
+    ("tdbc::mysql", tcl(TDBC + "puts [$it allrows {SELECT n FROM u}]"), ""),
     ("RMySQL", ("Rscript", "-e", R + "print(dbListFields(it, 't'))"), '[1] "id" "c" '),
     ("RMySQL", ("Rscript", "-e", R + "x <- dbExecute(it, 'INSERT INTO t VALUES (52, 1)'); print(dbReadTable(it, 't')$c[1])"), "[1] 1"),
     ("RMySQL", ("Rscript", "-e", R + "print(dbGetQuery(it, sqlInterpolate(it, 'SELECT c FROM t WHERE id = ?x', x = 52L))$c)"), "[1] 1"),

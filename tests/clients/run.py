@@ -420,22 +420,17 @@ def killed_command_line(router, still_serves):
     check("rows of a killed mariadb", kept, list(range(len(kept))))
 
 
-def waits_for_a_worker(program):
-    """As many clients are served at once as there are workers; the next one is greeted once one has gone."""
+def serves_more_clients_than_workers(program):
+    """A client between two statements keeps no worker, one in a transaction neither."""
     with Router(program, workers=2) as router:
-        one, other, third = (packets.Client(router.address) for _ in range(3))
-        for client in (one, other):
+        clients = [packets.Client(router.address) for _ in range(6)]
+        for client in clients:
             client.login(USER.encode(), b"")
-        third.socket.settimeout(0.5)
-        try:
-            got = third.greeting()
-        except TimeoutError:
-            got = "no greeting"
-        check("a third client of two workers", got, "no greeting")
-        one.command(packets.QUIT)
-        third.socket.settimeout(10)
-        check("once another has quit", third.greeting()[1], 3)
-        for client in (one, other, third):
+            check("BEGIN of each of six clients of two workers", client.query(b"BEGIN"), [bytes.fromhex("00000003000000")])
+        for number, client in enumerate(clients):
+            insert = b"INSERT INTO b VALUES ('%d', NULL)" % number
+            check("its INSERT", client.query(insert), [bytes.fromhex("00010003000000")])
+            check("its ROLLBACK", client.query(b"ROLLBACK"), [bytes.fromhex("00000002000000")])
             client.socket.close()
 
 
@@ -480,32 +475,49 @@ def goes_on_after_a_stop(program):
             check("after a stop", client.read(), bytes.fromhex("00000002000000"))
 
 
+def awaits_descriptors(router, count):
+    """How many files the process has open, once that are so many, or after five seconds."""
+    for _ in range(50):
+        if router.descriptors() == count:
+            break
+        time.sleep(0.1)
+    return router.descriptors()
+
+
+def ends_in_a_way(router, way):
+    """A connection that ends as soon as it is there, after a login that succeeds, fails, or isn't waited for."""
+    with packets.Client(router.address) as client:
+        if way == 0:
+            return
+        client.greeting()
+        client.respond(USER.encode(), packets.native(PASSWORD.encode() if way == 1 else b"wrong", client.salt))
+        if way == 3:
+            return
+        client.read()
+        if way == 1:
+            client.command(packets.QUIT)
+
+
 def keeps_no_descriptors(program):
-    """Connections that end in each way leave nothing open, and where no more can be opened the router waits for that."""
-    with Router(program, PASSWORD, descriptors=16) as router:
+    """Connections that end in each way leave nothing open, and where no more can be opened the rest are refused."""
+    with Router(program, PASSWORD, descriptors=64) as router:
         before = router.descriptors()
         for number in range(200):
-            with packets.Client(router.address) as client:
-                if number % 4 == 0:
-                    continue
-                client.greeting()
-                client.respond(USER.encode(), packets.native(PASSWORD.encode() if number % 4 == 1 else b"wrong", client.salt))
-                if number % 4 == 3:
-                    continue
-                client.read()
-                if number % 4 == 1:
-                    client.command(packets.QUIT)
-        many = [packets.Client(router.address) for _ in range(30)]
-        check("without descriptors, less than a tenth of a processor", seconds_used(router, 1) < 0.1, True)
+            ends_in_a_way(router, number % 4)
+            # one that has gone may take its place for a moment more
+            if number % 20 == 19:
+                check("open descriptors meanwhile", awaits_descriptors(router, before), before)
+        many = [packets.Client(router.address) for _ in range(60)]
+        first = [client.read() for client in many]
+        refused = [error_of(it) for it in first if it[0] == 0xFF]
+        check("those without a place", set(refused), {"ERROR 1040 (08004): too many connections"})
+        check("those with one", 20 < len(many) - len(refused) < 40, True)
+        check("without places, less than a tenth of a processor", seconds_used(router, 1) < 0.1, True)
         for client in many:
             client.socket.close()
+        check("open descriptors", awaits_descriptors(router, before), before)
         got = PYMYSQL.run(router.port, USER, PASSWORD, "shop", ["SELECT n FROM u"])
-        check("once there are some again", got, [["rows 0"]])
-        for _ in range(50):
-            if router.descriptors() == before:
-                break
-            time.sleep(0.1)
-        check("open descriptors", router.descriptors(), before)
+        check("once there are places again", got, [["rows 0"]])
 
 
 def answers_admin_lines(program):
@@ -645,7 +657,7 @@ def main():
         serves_two_at_once,
         serves_all_at_once,
         gives_up_gone_clients,
-        waits_for_a_worker,
+        serves_more_clients_than_workers,
         sleeps_while_idle,
         goes_on_after_a_stop,
         keeps_no_descriptors,
