@@ -560,11 +560,26 @@ def splits_live(program):
         check("all rows after splits", got, [[f"2000|10|{9 + len(LIBRARIES)}", "rows 1"]])
 
 
+def begins_again_after_a_conflict(program):
+    """examples/again.php moves its amount in the end, though each of its first commits is refused."""
+    with Router(program) as router:
+        with packets.Client(router.address) as other:
+            other.login(USER.encode(), b"", database=b"shop")
+            script = (TOP / "examples" / "again.php").read_text()
+            # another session writes the table before each of the first three commits
+            meanwhile = "static $other, $times = 0; $other ??= new PDO('mysql:host=127.0.0.1;port=%d;dbname=shop', 'app', ''); " % router.port
+            meanwhile += "if ($times++ < 3) $other->exec('INSERT INTO t VALUES (' . (20 + 4 * $times) . ', 1)');\n    "
+            changed = script.replace("    $connection->commit();", f"    {meanwhile}$connection->commit();").removeprefix("<?php")
+            ended = subprocess.run(["php", "-r", changed, "--", str(router.port)], capture_output=True, text=True, timeout=60)
+            check("again.php after three conflicts", (ended.stdout, ended.stderr, ended.returncode), ("8 70\n16 30\n", "", 0))
+            check("the others' rows", texts_of(other.query(b"SELECT COUNT(*) FROM t WHERE c = 1")), [[b"3"]])
+
+
 def runs_examples_after_a_split(program):
     """What examples/again moves lies on one shard, before README's split and after it."""
     with Router(program) as router:
         for when in ("before", "after"):
-            for call in (["/usr/bin/python3", "again.py"], ["sh", "again.go"]):
+            for call in (["/usr/bin/python3", "again.py"], ["sh", "again.go"], ["php", "again.php"]):
                 call[1:] = [TOP / "examples" / call[1], str(router.port)]
                 ended = subprocess.run(call, stdin=subprocess.DEVNULL, capture_output=True, text=True, timeout=120)
                 check(f"{call[1].name} {when} a split: status", (ended.returncode, ended.stderr), (0, ""))
@@ -664,6 +679,7 @@ def main():
         answers_admin_lines,
         splits_live,
         runs_examples_after_a_split,
+        begins_again_after_a_conflict,
         ends_by_itself,
         words_are_tested,
     ):
