@@ -60,8 +60,8 @@ func main() {
 	if len(os.Args) > 1 {
 		port = os.Args[1]
 	}
-	// Without interpolateParams a statement with arguments is a prepared one, which the router doesn't take.
-	db, err := sql.Open("mysql", "app@tcp(127.0.0.1:"+port+")/shop?interpolateParams=true")
+	// A statement with arguments is a prepared one.
+	db, err := sql.Open("mysql", "app@tcp(127.0.0.1:"+port+")/shop")
 	if err != nil {
 		log.Fatal(err)
 	}
