@@ -151,10 +151,10 @@ impl Statement {
         Err(SoakFault::Statement("told and wanted", *self, told, Some(wanted)))
     }
 
-    /// Whether it may be refused so whatever the rows are. One that needs a shard alone waits for it; in a transaction it is refused.
+    /// Whether it may be refused so whatever the rows are. One that needs a shard alone waits for it; in a transaction it is refused. There is memory
+    /// for all that a soak does, so no statement may be refused for want of it.
     pub fn may_be_refused(&self, refusal: Refusal, within: bool) -> bool {
         match refusal {
-            Refusal::OutOfMemory => true,
             Refusal::SeveralShards => within || matches!(self.ids, Ids::Two(..)),
             Refusal::BufferFull => !within,
             Refusal::Conflict | Refusal::ShardMoved => within,
