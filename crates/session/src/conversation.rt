@@ -4,6 +4,7 @@ mod access;
 mod answers;
 mod client_reply;
 mod columns;
+mod commands;
 mod connection_state;
 mod device;
 mod devices;
