@@ -1,3 +1,5 @@
 pub mod Cuttings
 pub mod Tryings
 pub mod HeldLaws
+pub mod Tokens
+pub mod SentValues

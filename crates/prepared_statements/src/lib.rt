@@ -5,9 +5,11 @@ mod bytes;
 mod cutting;
 mod filling;
 mod held;
+mod laws;
 mod literals;
 mod trying;
 
 pub use filling::filled;
 pub use held::{Held, MAX_STATEMENTS, NotExecuted, NotHeld, Prepared};
+pub use laws::values_are_literals;
 pub use trying::{PreparedText, read_prepared};
