@@ -1,11 +1,13 @@
 -- The statements that a connection holds, by their numbers.
-use Rattle.std.proofs.Common.{◌≡◌, ℕ, ◌+◌, ◌<◌, ◌^◌, List, [], ◌∷◌, ◌++◌, length, Option, Some, None, Result, Ok, Err, refl, ap, sym, subst, ◌∙◌}
-use Rattle.std.specs.Prelude.{slice_index_or, slice_set, IfOk, OnOk}
+use Rattle.std.proofs.Common.{◌≡◌, ℕ, ◌+◌, ◌<◌, ◌≤◌, ◌^◌, true, false, arith, List, [], ◌∷◌, ◌++◌, length, Option, Some, None, Result, Ok, Err, refl, ap, sym, subst, ◌∙◌}
+use Rattle.std.specs.Prelude.{nat_le, is_some, slice_index_or, slice_set, IfOk, OnOk}
+use Rattle.std.specs.List.{list_all}
+use Rattle.std.proofs.lemmas.Bool.{leb-true, leb-false}
 use Rattle.std.proofs.lemmas.Option.{none-some}
 use Rattle.mysql_packet.specs.Numbers.{little_endian}
 use Rattle.statement_values.specs.declared.ParameterType.{ParameterType}
 use Rattle.prepared_statements.specs.declared.held.Prepared.{Prepared}
-use Rattle.prepared_statements.specs.Held.{Places, held_at, held_with, no_long, no_values, newly_prepared, AddsHeld, RunOf, RunsHeld, ClosesHeld, DropsHeld, ResetsHeld}
+use Rattle.prepared_statements.specs.Held.{Places, held_at, held_with, no_long, no_values, newly_prepared, max_statements, max_size, held_size, size_of, IsFull, AddsHeld, RunOf, RunsHeld, ClosesHeld, DropsHeld, ResetsHeld}
 use Rattle.prepared_statements.specs.inner.Keeping.{held_keeping, keeping}
 use Rattle.prepared_statements.specs.Held as h
 
@@ -71,31 +73,33 @@ pub run_number : (places new : Places) (bytes text : List ℕ) → RunsHeld plac
     × RunOf q rest text types
 run_number places _ _ text (h.runs {n = n} {rest = rest} {q = q} {types = types} lt held run) = (n, rest, q, types, lt, refl, held, run)
 
--- a statement that has no types and no long data
-fresh : (pieces lent : List (List ℕ)) (types : List ParameterType) (long : List (Option (List ℕ))) → types ≡ [] → long ≡ no_values lent → lent ≡ pieces
-    → record { pieces = pieces; types = types; long = long } ≡ newly_prepared pieces (no_values pieces)
-fresh pieces lent types long t l e = rw (t, l, e) refl
+-- ---- what is full
 
-pub adds_free : (places new : Places) (pieces lent : List (List ℕ)) (types : List ParameterType) (long : List (Option (List ℕ))) (n : ℕ) → n < length places
-    → slice_index_or places n None ≡ None → new ≡ slice_set places n (Some (record { pieces = pieces; types = types; long = long })) → types ≡ [] → long ≡ no_values lent
-    → lent ≡ pieces → AddsHeld places (newly_prepared pieces (no_values pieces)) (n + 1) new
-adds_free places new pieces lent types long n lt free is t l e =
-    subst (λ (p : Places). AddsHeld places (newly_prepared pieces (no_values pieces)) (n + 1) p)
-    (sym (is ∙ ap (λ (q : Prepared). slice_set places n (Some q)) (fresh pieces lent types long t l e))) (h.at_free n lt free)
+pub too_large : (places : Places) (pieces : List (List ℕ)) → nat_le (held_size places + size_of pieces) max_size ≡ false → IsFull places pieces
+too_large places pieces e = h.too_large (leb-false _ _ e)
 
-last_of : (places new : Places) (pieces lent : List (List ℕ)) (types : List ParameterType) (long : List (Option (List ℕ))) (number : ℕ) → number ≡ length places + 1
-    → new ≡ places ++ Some (record { pieces = pieces; types = types; long = long }) ∷ [] → types ≡ [] → long ≡ no_values lent → lent ≡ pieces
-    → AddsHeld places (newly_prepared pieces (no_values pieces)) number new
-last_of places new pieces lent types long number n is t l e =
-    subst (λ (m : ℕ). AddsHeld places (newly_prepared pieces (no_values pieces)) m new) (sym n)
-    (subst (λ (p : Places). AddsHeld places (newly_prepared pieces (no_values pieces)) (length places + 1) p)
-    (sym (is ∙ ap (λ (q : Prepared). places ++ Some q ∷ []) (fresh pieces lent types long t l e))) h.at_end)
+pub not_full : (places : Places) (pieces : List (List ℕ)) → nat_le (held_size places + size_of pieces) max_size ≡ true
+    → (max_statements ≤ length places → list_all is_some places ≡ true → ⊥) → IsFull places pieces → ⊥
+not_full places pieces e free (h.too_large lt) = omega (arith, leb-true _ _ e, lt)
+not_full places pieces e free (h.too_many many taken) = free many taken
 
-pub adds_last : {E : Type 0} (r : Result ℕ E) (places new : Places) (pieces lent : List (List ℕ)) (types : List ParameterType) (long : List (Option (List ℕ)))
-    → IfOk r (λ number. number ≡ length places + 1) → OnOk r (new ≡ places ++ Some (record { pieces = pieces; types = types; long = long }) ∷ []) → types ≡ []
-    → long ≡ no_values lent → lent ≡ pieces → IfOk r (λ number. AddsHeld places (newly_prepared pieces (no_values pieces)) number new)
-adds_last (Ok number) places new pieces lent types long n is t l e = last_of places new pieces lent types long number n is t l e
-adds_last (Err x) places new pieces lent types long n is t l e = tt
+pub all_taken : (places : Places) (pieces : List (List ℕ)) → nat_le (held_size places + size_of pieces) max_size ≡ true → IsFull places pieces
+    → list_all is_some places ≡ true
+all_taken places pieces e (h.too_large lt) = absurd (omega (arith, leb-true _ _ e, lt))
+all_taken places pieces e (h.too_many many taken) = taken
+
+pub adds_free : (places new : Places) (q : Prepared) (n : ℕ) → n < length places → slice_index_or places n None ≡ None → new ≡ slice_set places n (Some q)
+    → AddsHeld places q (n + 1) new
+adds_free places new q n lt free is = subst (λ (p : Places). AddsHeld places q (n + 1) p) (sym is) (h.at_free n lt free)
+
+last_of : (places new : Places) (q : Prepared) (number : ℕ) → number ≡ length places + 1 → new ≡ places ++ Some q ∷ [] → AddsHeld places q number new
+last_of places new q number n is =
+    subst (λ (m : ℕ). AddsHeld places q m new) (sym n) (subst (λ (p : Places). AddsHeld places q (length places + 1) p) (sym is) h.at_end)
+
+pub adds_last : {E : Type 0} (r : Result ℕ E) (places new : Places) (q : Prepared) → IfOk r (λ number. number ≡ length places + 1)
+    → OnOk r (new ≡ places ++ Some q ∷ []) → IfOk r (λ number. AddsHeld places q number new)
+adds_last (Ok number) places new q n is = last_of places new q number n is
+adds_last (Err x) places new q n is = tt
 
 given_statement : Option Prepared → Prepared → Prepared
 given_statement (Some q) other = q

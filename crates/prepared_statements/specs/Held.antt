@@ -1,5 +1,6 @@
 -- The statements that a connection has prepared.
-use Rattle.std.specs.Prelude.{◌≡◌, ℕ, zero, suc, ◌+◌, ◌<◌, ◌^◌, List, [], ◌∷◌, ◌++◌, length, map, slice_index_or, slice_set, Option, Some, None}
+use Rattle.std.specs.Prelude.{◌≡◌, ℕ, zero, suc, ◌+◌, ◌<◌, ◌^◌, List, [], ◌∷◌, ◌++◌, ◌≤◌, length, map, slice_index_or, slice_set, sum_by, true, is_some, Option, Some, None}
+use Rattle.std.specs.List.{list_all}
 use Rattle.sql_lexer.specs.Value.{Value}
 use Rattle.mysql_packet.specs.Numbers.{little_endian}
 use Rattle.statement_values.specs.declared.ParameterType.{ParameterType}
@@ -22,6 +23,27 @@ held_with places (suc n) held = slice_set places n held
 
 abbrev pub max_statements : ℕ
 max_statements = 1024
+
+-- What a text counts that is cut into these pieces: its bytes, and 32 for each piece, for what is kept beside them.
+abbrev pub size_of : List (List ℕ) → ℕ
+size_of pieces = sum_by (λ p. length p + 32) pieces
+
+abbrev pub place_size : Option Prepared → ℕ
+place_size None = 0
+place_size (Some q) = size_of q.pieces
+
+-- what all texts count that are held
+abbrev pub held_size : Places → ℕ
+held_size places = sum_by place_size places
+
+-- the most that they may count: a payload's limit
+abbrev pub max_size : ℕ
+max_size = 1048576
+
+-- A text isn't held beside these: with it they would count too much, or as many are held as may be.
+pub data IsFull (places : Places) (pieces : List (List ℕ)) : Type 0 where
+  too_large : max_size < held_size places + size_of pieces → IsFull places pieces
+  too_many : max_statements ≤ length places → list_all is_some places ≡ true → IsFull places pieces
 
 -- without long data
 abbrev pub no_long : List (Option (List ℕ)) → List (Option (List ℕ))

@@ -1,12 +1,14 @@
 //! The statements that a connection holds.
-ghost use Rattle.std.specs.Prelude.{◌≡◌, ◌↔◌, ◌⊎◌, ◌≤◌, ◌<◌, ◌+◌, ℕ, List, [], ◌∷◌, ◌++◌, map, option_map, length, slice_index_or, slice_set, Option, Some, None, suc, Err, IfOk, IfErr, IfSome, OnOk, OnErr};
+ghost use Rattle.std.specs.Prelude.{◌≡◌, ◌↔◌, ◌⊎◌, ◌≤◌, ◌<◌, ◌+◌, ℕ, List, [], ◌∷◌, ◌++◌, map, option_map, true, is_some, length, slice_index_or, slice_set, Option, Some, None, suc, Err, IfOk, IfErr, IfSome, OnOk, OnErr};
+ghost use Rattle.std.specs.List.{list_all};
 ghost use Rattle.statement_values.specs.declared.ParameterType.{ParameterType as KindOfValue};
 ghost use Rattle.prepared_statements.specs.inner.Cutting.{not_read};
-ghost use Rattle.prepared_statements.specs.Held.{Places, held_at, no_long, no_values, none_each, RunOf, RunsHeld, ClosesHeld, ResetsHeld, AddsHeld};
+ghost use Rattle.prepared_statements.specs.Held.{Places, IsFull, newly_prepared, held_at, no_long, no_values, none_each, RunOf, RunsHeld, ClosesHeld, ResetsHeld, AddsHeld};
 ghost use Rattle.prepared_statements.specs.inner.Keeping.{keeping};
 
 use crate::bytes::{number_at, only_number};
 use crate::filling::{filled, first_piece};
+use crate::size::fits;
 use statement_values::{ParameterType, Unread, read_execution};
 use std::alloc::{AllocError, AllocFailed, Global};
 use std::marker::Model;
@@ -167,16 +169,57 @@ impl Drop for Held {
 }
 
 impl Model for Held {
+    ghost use Rattle.std.specs.Prelude.{◌≤◌, length};
     ghost use Rattle.prepared_statements.specs.Held.{Places};
 
     ghost Value = { Places };
 
     ghost view = { λ h. h.places.items };
+
+    ghost invariant = { λ h. length h.places.items ≤ 1024 };
+}
+
+/// A text that nothing has executed.
+fn newly_prepared(alloc: Global, pieces: Items<Items<u8>>) -> Result<Prepared, AllocError>
+    ensures ok { IfOk result (λ held. held ≡ newly_prepared pieces (no_values pieces)) }
+{
+    let long = no_values(alloc, pieces.as_slice())?;
+    Ok(Prepared {
+        pieces,
+        types: Items::new(alloc),
+        long,
+    })
+}
+
+/// Whether each place has a statement.
+fn are_taken(places: &[Option<Prepared>]) -> bool
+    ensures { result ≡ list_all is_some places.now }
+{
+    for place in places {
+        if place.is_none() {
+            return false;
+        }
+    }
+    true
+}
+
+/// Whether a text of these pieces isn't held beside these.
+fn is_full(places: &[Option<Prepared>], pieces: &[Items<u8>]) -> bool
+    ensures { result ≡ true ↔ IsFull places.now pieces.now }
+{
+    if !fits(places, pieces) {
+        return true;
+    }
+    if places.len() < MAX_STATEMENTS {
+        return false;
+    }
+    are_taken(places)
 }
 
 /// A place that is free.
 fn free_place(places: &[Option<Prepared>]) -> Option<usize>
     ensures free { IfSome result (λ n. (n < length places.now) × (slice_index_or places.now n None ≡ None)) }
+    ensures none { result ≡ None → list_all is_some places.now ≡ true }
 {
     for (n, place) in places.iter().enumerate() {
         if place.is_none() {
@@ -212,10 +255,11 @@ fn place_of(number: u32) -> Option<usize>
 }
 
 impl Held {
-    ghost use Rattle.std.specs.Prelude.{◌≡◌, ◌⊎◌, ◌≤◌, ◌<◌, ◌^◌, ℕ, List, [], ◌∷◌, ◌++◌, length, option_copied, Some, None, IfOk, IfErr, IfSome, OnOk, OnErr, ◌+◌, slice_index_or, slice_set};
+    ghost use Rattle.std.specs.Prelude.{◌≡◌, ◌↔◌, true, is_some, Err, ◌⊎◌, ◌≤◌, ◌<◌, ◌^◌, ℕ, List, [], ◌∷◌, ◌++◌, length, option_copied, Some, None, IfOk, IfErr, IfSome, OnOk, OnErr, ◌+◌, slice_index_or, slice_set};
+    ghost use Rattle.std.specs.List.{list_all};
     ghost use Rattle.mysql_packet.specs.Numbers.{little_endian};
     ghost use Rattle.prepared_statements.specs.declared.held.Prepared.{Prepared as PreparedView};
-    ghost use Rattle.prepared_statements.specs.Held.{Places, max_statements, held_at, held_with, no_long, newly_prepared, no_values, AddsHeld, RunOf, RunsHeld, ClosesHeld, DropsHeld, ResetsHeld};
+    ghost use Rattle.prepared_statements.specs.Held.{Places, max_statements, IsFull, held_at, held_with, no_long, newly_prepared, no_values, AddsHeld, RunOf, RunsHeld, ClosesHeld, DropsHeld, ResetsHeld};
     ghost use Rattle.prepared_statements.specs.inner.Keeping.{held_keeping};
     ghost use Rattle.statement_values.specs.declared.ParameterType.{ParameterType as KindOfValue};
 
@@ -283,9 +327,18 @@ impl Held {
         Ok((types, long))
     }
 
+    /// Whether a text of these pieces isn't held beside the others.
+    fn is_full(&self, pieces: &[Items<u8>]) -> bool
+        ensures { result ≡ true ↔ IsFull self.now pieces.now }
+    {
+        is_full(self.places.as_slice(), pieces)
+    }
+
     /// A place that is free.
     fn free(&self) -> Option<usize>
         ensures free { IfSome result (λ n. (n < length self.now) × (slice_index_or self.now n None ≡ None)) }
+        ensures none { result ≡ None → list_all is_some self.now ≡ true }
+        ensures few { length self.now ≤ max_statements }
     {
         free_place(self.places.as_slice())
     }
@@ -299,43 +352,50 @@ impl Held {
     }
 
     /// A statement in a new place, after the others.
-    fn add_last(&mut self, held: Prepared) -> Result<u32, NotHeld>
+    fn add_last(&mut self, held: Prepared) -> Result<u32, AllocError>
+        requires { length self.old < max_statements }
         ensures number { IfOk result (λ number. number ≡ length self.old + 1) }
         ensures ok { OnOk result (self.new ≡ self.old ++ Some held ∷ []) }
         ensures err { OnErr result (self.new ≡ self.old) }
-        ensures full { IfErr result (λ e. e ≡ NotHeld.TooMany → max_statements ≤ length self.old) }
     {
         let len = self.places.len();
-        if len >= MAX_STATEMENTS {
-            return Err(NotHeld::TooMany);
-        }
         self.places.push(Some(held))?;
         Ok((len + 1) as u32)
     }
 
-    // Promise: A statement is held under a number that none has, unless 1,024 are
-    /// Holds a text that is cut at its holes, and gives its number. Refuses if as many are held as may be, and for want of memory.
-    pub fn add(&mut self, alloc: Global, pieces: Items<Items<u8>>) -> Result<u32, NotHeld>
-        ensures ok { IfOk result (λ number. AddsHeld self.old (newly_prepared pieces (no_values pieces)) number self.new) }
+    /// A statement in a place that is free, or in a new one.
+    fn put(&mut self, held: Prepared) -> Result<u32, AllocError>
+        requires { max_statements ≤ length self.old → list_all is_some self.old ≡ true → ⊥ }
+        ensures ok { IfOk result (λ number. AddsHeld self.old held number self.new) }
         ensures err { OnErr result (self.new ≡ self.old) }
-        ensures full { IfErr result (λ e. e ≡ NotHeld.TooMany → max_statements ≤ length self.old) }
     {
-        let long = no_values(alloc, pieces.as_slice())?;
-        let held = Prepared {
-            pieces,
-            types: Items::new(alloc),
-            long,
-        };
         match self.free() {
             Some(n) => {
-                if n >= MAX_STATEMENTS {
-                    return Err(NotHeld::TooMany);
-                }
                 self.set(n, held);
                 Ok((n + 1) as u32)
             }
             None => self.add_last(held),
         }
+    }
+
+    // Promise: A statement is held under a number that none has. It is refused as too many exactly if 1,024 are, or if their texts and its own would
+    // count more than a payload's limit
+    /// Holds a text that is cut at its holes, and gives its number. Refuses if as many or as much is held as may be, and for want of memory.
+    ///
+    /// The number of a statement that was closed is given again. No command means the closed one then: commands of a connection are read in order,
+    /// and its client sent CLOSE before it was given the number again.
+    pub fn add(&mut self, alloc: Global, pieces: Items<Items<u8>>) -> Result<u32, NotHeld>
+        ensures ok { IfOk result (λ number. AddsHeld self.old (newly_prepared pieces (no_values pieces)) number self.new) }
+        ensures err { OnErr result (self.new ≡ self.old) }
+        ensures full { IfErr result (λ e. e ≡ NotHeld.TooMany → IsFull self.old pieces) }
+        ensures refused { IsFull self.old pieces → result ≡ Err NotHeld.TooMany }
+    {
+        if self.is_full(pieces.as_slice()) {
+            return Err(NotHeld::TooMany);
+        }
+        let held = newly_prepared(alloc, pieces)?;
+        let number = self.put(held)?;
+        Ok(number)
     }
 
     // Promise: What executes a statement runs its text with the values that its bytes spell, each as a literal; types are kept, and long data is

@@ -7,9 +7,11 @@ mod filling;
 mod held;
 mod laws;
 mod literals;
+mod size;
 mod trying;
 
 pub use filling::filled;
 pub use held::{Held, MAX_STATEMENTS, NotExecuted, NotHeld, Prepared};
 pub use laws::values_are_literals;
+pub use size::MAX_SIZE;
 pub use trying::{PreparedText, read_prepared};

@@ -1,5 +1,5 @@
 -- What answers the commands of prepared statements.
-use Rattle.std.specs.Prelude.{◌≡◌, ℕ, ◌-◌, ◌^◌, ◌<◌, ◌≤◌, Bool, true, false, ◌||◌, List, [], ◌++◌, length, Some, Ok, Err}
+use Rattle.std.specs.Prelude.{◌≡◌, ℕ, ◌-◌, ◌^◌, ◌<◌, Bool, true, false, ◌||◌, List, [], ◌++◌, length, Some, Ok, Err}
 use Rattle.vt_value.specs.declared.refusal.Refusal.{Refusal}
 use Rattle.vt_value.specs.declared.refusal.Refusal.TheVariants as r
 use Rattle.sql_tree.specs.declared.Statement.{Statement}
@@ -16,7 +16,7 @@ use Rattle.resultset.specs.declared.Column as R
 use Rattle.resultset.specs.declared.SetEnd.{SetEnd}
 use Rattle.resultset.specs.PreparedReplies.{prepare_encoded}
 use Rattle.prepared_statements.specs.declared.held.Prepared.{Prepared}
-use Rattle.prepared_statements.specs.Held.{Places, max_statements, held_at, newly_prepared, no_values, AddsHeld, RunsHeld, ClosesHeld, DropsHeld, ResetsHeld}
+use Rattle.prepared_statements.specs.Held.{Places, IsFull, held_at, newly_prepared, no_values, AddsHeld, RunsHeld, ClosesHeld, DropsHeld, ResetsHeld}
 use Rattle.prepared_statements.specs.Texts.{MayBePrepared}
 use Rattle.session.specs.conversation.Columns.{AreColumns}
 
@@ -59,7 +59,7 @@ pub data AnswersStatement (schema : VSchema) (end : SetEnd) (status number : ℕ
       → AnswersStatement schema end status number held (prepare text) (frame number (err_payload r.OutOfMemory)) then
   not_prepared : {text : List ℕ} {why : Refusal} → NotPrepared schema text why
       → AnswersStatement schema end status number held (prepare text) (frame number (err_payload why)) held
-  too_many : {text : List ℕ} → max_statements ≤ length held
+  too_many : {text : List ℕ} {pieces : List (List ℕ)} {statement : Statement} → MayBePrepared text pieces statement → IsFull held pieces
       → AnswersStatement schema end status number held (prepare text) (frame number (fault_payload TooManyStatements)) held
   unknown : {bytes : List ℕ} → ((n : ℕ) (rest : List ℕ) (q : Prepared) → n < 2 ^ 32 → bytes ≡ little_endian 4 n ++ rest → held_at held n ≡ Some q → ⊥)
       → AnswersStatement schema end status number held (execute bytes) (frame number (fault_payload UnknownStatement)) held

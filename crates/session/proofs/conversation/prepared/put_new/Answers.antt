@@ -10,7 +10,7 @@ returns-in-Ok-clause-answers c = λ schema text statement may shows.
 
 pub returns-in-Err-TooMany-clause-answers : goal.returns-in-Err-TooMany-clause-answers
 returns-in-Err-TooMany-clause-answers c = λ schema text statement may shows.
-    rw (c.put_one_fault.ensures.bytes, c.in-Err-TooMany.ensures.err) (a.too_many (c.in-Err-TooMany.ensures.full c.in-Err-TooMany.field-0-is))
+    rw (c.put_one_fault.ensures.bytes, c.in-Err-TooMany.ensures.err) (a.too_many may (c.in-Err-TooMany.ensures.full c.in-Err-TooMany.field-0-is))
 
 pub returns-in-Err-OutOfMemory-clause-answers : goal.returns-in-Err-OutOfMemory-clause-answers
 returns-in-Err-OutOfMemory-clause-answers c = λ schema text statement may shows.
