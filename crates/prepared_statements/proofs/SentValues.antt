@@ -1,5 +1,5 @@
 -- What a client sends for holes are literals.
-use Rattle.std.proofs.Common.{◌≡◌, ℕ, suc, ◌+◌, ◌-◌, ◌<◌, ◌≤◌, ◌^◌, Bool, true, false, List, [], ◌∷◌, ◌++◌, Option, refl, pos, negsuc, arith}
+use Rattle.std.proofs.Common.{◌≡◌, ℕ, ℤ, suc, ◌+◌, ◌-◌, ◌<◌, ◌≤◌, ◌^◌, Bool, true, false, List, [], ◌∷◌, ◌++◌, Option, refl, pos, negsuc, arith}
 use Rattle.std.specs.Prelude.{nat_lt}
 use Rattle.std.specs.List.{AllByRecursion}
 use Rattle.std.proofs.lemmas.Bool.{ltb-true, ltb-false}
@@ -8,6 +8,7 @@ use Rattle.sql_lexer.specs.Value.TheVariants.{Int}
 use Rattle.statement_values.specs.declared.ParameterType.{ParameterType}
 use Rattle.statement_values.specs.declared.Width.{Width}
 use Rattle.statement_values.specs.declared.Width.TheVariants as w
+use Rattle.statement_values.specs.Floats.{IsInRange}
 use Rattle.statement_values.specs.Values.{Spells, number_of, signed_of, half_of}
 use Rattle.statement_values.specs.Values as v
 use Rattle.statement_values.specs.Executions.{has_bit, BindsHole, Binds, Parts, Executes}
@@ -31,9 +32,15 @@ number_fits : (unsigned : Bool) (width : Width) (n : ℕ) → n < half_of width 
 number_fits true width n lt = omega (arith, half_small width, lt)
 number_fits false width n lt = signed_fits (half_of width) n (half_small width) lt
 
+range_fits : (z : ℤ) → IsInRange z → IsLiteral (Int z)
+range_fits (pos n) h = h
+range_fits (negsuc n) h = h
+
 spelled_fits : (t : ParameterType) (bytes : List ℕ) (value : Value) → Spells t bytes value → IsLiteral value
 spelled_fits _ _ _ v.null = tt
 spelled_fits _ _ _ (v.number {unsigned = unsigned} width n lt) = number_fits unsigned width n lt
+spelled_fits _ _ _ (v.single {z = z} lt is range) = range_fits z range
+spelled_fits _ _ _ (v.double {z = z} lt is range) = range_fits z range
 spelled_fits _ _ _ (v.text bytes) = tt
 
 hole_fits : (is_null : Bool) (long : Option (List ℕ)) (t : ParameterType) (bytes : List ℕ) (value : Value) → BindsHole is_null long t bytes value → IsLiteral value

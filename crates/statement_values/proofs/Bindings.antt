@@ -1,12 +1,15 @@
 -- Values of holes that are read one after another.
-use Rattle.std.proofs.Common.{◌≡◌, ℕ, suc, ◌+◌, ◌<◌, ◌≤◌, Bool, true, false, List, [], ◌∷◌, ◌++◌, length, get_or, Option, Some, None, refl, ap, sym, subst, ◌∙◌, append_assoc, append-nil, drop, arith}
+use Rattle.std.proofs.Common.{◌≡◌, ℕ, suc, ◌+◌, ◌<◌, ◌≤◌, Bool, true, false, List, [], ◌∷◌, ◌++◌, length, get_or, Option, Some, None, Result, Err, refl, ap, sym, subst, ◌∙◌, append_assoc, append-nil, drop, arith, ◌⊎◌, inl, inr}
+use Rattle.std.proofs.lemmas.Bool.{cases_lt}
 use Rattle.std.proofs.lemmas.List.{length_push}
 use Rattle.std.proofs.lemmas.Option.{none-some}
 use Rattle.vt_value.specs.declared.value.Value.{Value}
 use Rattle.vt_value.specs.declared.value.Value.TheVariants.{Null, Bytes}
 use Rattle.statement_values.specs.declared.ParameterType.{ParameterType}
-use Rattle.statement_values.specs.Executions.{has_bit, BindsHole, Binds, TellsTypes, HoldTypes, Parts, once, Executes}
+use Rattle.statement_values.specs.Executions.{has_bit, BindsHole, Binds, TellsTypes, TellsForeign, PartsForeign, PartsOther, HoleIsOther, HoldsOther, IsNotSupported, HoldTypes, Parts, once, Executes}
 use Rattle.statement_values.specs.Executions as e
+use Rattle.statement_values.specs.declared.unread.Unread.{Unread}
+use Rattle.statement_values.specs.declared.unread.Unread.TheVariants as u
 use Rattle.statement_values.specs.Values.{Spells, type_named}
 
 -- ---- types
@@ -49,9 +52,11 @@ pub record BoundSoFar (bitmap : List ℕ) (long : List (Option (List ℕ))) (typ
     (left : List (Option (List ℕ))) (kinds : List ParameterType) (rest : List ℕ) : Type 0 where
   pub found : (values : List Value) → Binds bitmap (length read) left kinds rest values → Binds bitmap 0 long types bytes (read ++ values)
   pub only : (all : List Value) → Binds bitmap 0 long types bytes all → (values : List Value) × Binds bitmap (length read) left kinds rest values × (all ≡ read ++ values)
+  pub other : HoldsOther bitmap (length read) left kinds rest → HoldsOther bitmap 0 long types bytes
+  pub other_only : HoldsOther bitmap 0 long types bytes → HoldsOther bitmap (length read) left kinds rest
 
 pub bound_first : (bitmap : List ℕ) (long : List (Option (List ℕ))) (types : List ParameterType) (bytes : List ℕ) → BoundSoFar bitmap long types bytes [] long types bytes
-bound_first bitmap long types bytes = record { found = λ values b. b; only = λ all b. (all, b, refl) }
+bound_first bitmap long types bytes = record { found = λ values b. b; only = λ all b. (all, b, refl); other = λ o. o; other_only = λ o. o }
 
 -- what the first of some holes binds
 pub first_hole : (bitmap : List ℕ) (n : ℕ) (sent : Option (List ℕ)) (long : List (Option (List ℕ))) (t : ParameterType) (types : List ParameterType) (bytes : List ℕ) (all : List Value)
@@ -61,13 +66,23 @@ pub first_hole : (bitmap : List ℕ) (n : ℕ) (sent : Option (List ℕ)) (long 
 first_hole bitmap n sent long t types _ _ (e.next {front = front} {rest = rest} {v = v} {values = values} hole others) =
     (front, rest, v, values, refl, hole, others, refl)
 
+-- a value that isn't taken comes after the first of some holes, if that has its value
+other_later : (bitmap : List ℕ) (n : ℕ) (sent : Option (List ℕ)) (long : List (Option (List ℕ))) (t : ParameterType) (types : List ParameterType) (bytes after : List ℕ)
+    → HoldsOther bitmap n (sent ∷ long) (t ∷ types) bytes
+    → ((f r : List ℕ) (w : Value) → BindsHole (has_bit bitmap n) sent t f w → bytes ≡ f ++ r → after ≡ r)
+    → ((f r : List ℕ) → HoleIsOther (has_bit bitmap n) sent t f → bytes ≡ f ++ r → ⊥) → HoldsOther bitmap (n + 1) long types after
+other_later bitmap n sent long t types _ after (e.here {front = front} rest hole) one none = absurd (none front rest hole refl)
+other_later bitmap n sent long t types _ after (e.later {front = front} {rest = rest} {v = v} hole others) one none =
+    subst (λ (w : List ℕ). HoldsOther bitmap (n + 1) long types w) (sym (one front rest v hole refl)) others
+
 pub bound_next : (bitmap : List ℕ) (long : List (Option (List ℕ))) (types : List ParameterType) (bytes : List ℕ) (read : List Value)
     (sent : Option (List ℕ)) (left : List (Option (List ℕ))) (t : ParameterType) (kinds : List ParameterType) (rest after front : List ℕ) (v : Value)
     → BoundSoFar bitmap long types bytes read (sent ∷ left) (t ∷ kinds) rest
     → rest ≡ front ++ after → BindsHole (has_bit bitmap (length read)) sent t front v
     → ((f r : List ℕ) (w : Value) → BindsHole (has_bit bitmap (length read)) sent t f w → rest ≡ f ++ r → (v ≡ w) × (after ≡ r))
+    → ((f r : List ℕ) → HoleIsOther (has_bit bitmap (length read)) sent t f → rest ≡ f ++ r → ⊥)
     → BoundSoFar bitmap long types bytes (read ++ v ∷ []) left kinds after
-bound_next bitmap long types bytes read sent left t kinds rest after front v so_far is hole one =
+bound_next bitmap long types bytes read sent left t kinds rest after front v so_far is hole one no_other =
     let len : length (read ++ v ∷ []) ≡ length read + 1 = length_push read v in
     record {
       found = λ values b.
@@ -83,6 +98,13 @@ bound_next bitmap long types bytes read sent left t kinds rest after front v so_
                 (subst (λ (w : List ℕ). Binds bitmap (length read + 1) left kinds w f.3) (sym o.1) f.6),
             r.2 ∙ ap (λ (w : List Value). read ++ w) (f.7 ∙ ap (λ (w : Value). w ∷ f.3) (sym o.0)) ∙ sym (append_assoc read (v ∷ []) f.3),
           );
+      other = λ o.
+          so_far.other
+          (subst (λ (w : List ℕ). HoldsOther bitmap (length read) (sent ∷ left) (t ∷ kinds) w) (sym is)
+          (e.later hole (subst (λ (n : ℕ). HoldsOther bitmap n left kinds after) len o)));
+      other_only = λ o.
+          subst (λ (n : ℕ). HoldsOther bitmap n left kinds after) (sym len)
+          (other_later bitmap (length read) sent left t kinds rest after (so_far.other_only o) (λ f r w h p. (one f r w h p).1) no_other);
     }
 
 -- ---- one hole
@@ -154,6 +176,60 @@ types_all count bytes left rest types all so_far done told =
     let same : count ≡ length types = omega (arith, so_far.1, done) in
     types_same (length types) bytes left rest types all so_far.0 (subst (λ (n : ℕ). TellsTypes n bytes all rest) same told)
 
+-- a type that isn't taken is none that was read
+foreign_ahead : (n : ℕ) (bytes left : List ℕ) (types : List ParameterType) (k named flags : ℕ) (others : List ParameterType) (rest : List ℕ) → TellsTypes n bytes types left
+    → TellsTypes k bytes others (named ∷ flags ∷ rest) → type_named named flags ≡ None → k < n → ⊥
+foreign_ahead n bytes left types k named flags others rest so_far tells none lt =
+    let m = next_type k n bytes (named ∷ flags ∷ rest) left others types tells so_far lt in
+    let first : named ≡ m.0 = ap (λ (l : List ℕ). get_or l 0 0) m.4 in
+    let second : flags ≡ m.1 = ap (λ (l : List ℕ). get_or l 1 0) m.4 in
+    none-some m.3 (sym none ∙ ap (λ (x : ℕ). type_named x flags) first ∙ ap (λ (x : ℕ). type_named m.0 x) second ∙ m.5)
+
+pub foreign_left : (count : ℕ) (bytes left : List ℕ) (types : List ParameterType) → TypesSoFar count bytes types left → TellsForeign count bytes → length left < 2 → ⊥
+foreign_left count bytes left types so_far f short =
+    elim (cases_lt f.before (length types)) [
+      | inl lt ↦ foreign_ahead (length types) bytes left types f.before f.named f.flags f.types f.rest so_far.0 f.tells f.foreign lt
+      | inr ge ↦
+          elim (cases_lt (length types) f.before) [
+            | inl lt ↦
+                let m = next_type (length types) f.before bytes left (f.named ∷ f.flags ∷ f.rest) types f.types so_far.0 f.tells lt in
+                omega (arith, short, ap length m.4)
+            | inr le ↦
+                let same : f.before ≡ length types = omega (arith, ge, le) in
+                let r =
+                types_same (length types) bytes left (f.named ∷ f.flags ∷ f.rest) types f.types so_far.0
+                (subst (λ (n : ℕ). TellsTypes n bytes f.types (f.named ∷ f.flags ∷ f.rest)) same f.tells)
+                in
+                omega (arith, short, ap length r.1)
+          ]
+    ]
+
+pub foreign_end : (count : ℕ) (bytes left : List ℕ) (types : List ParameterType) → TypesSoFar count bytes types left → TellsForeign count bytes → count ≤ length types → ⊥
+foreign_end count bytes left types so_far f done =
+    foreign_ahead (length types) bytes left types f.before f.named f.flags f.types f.rest so_far.0 f.tells f.foreign (omega (arith, f.few, done))
+
+-- ---- what isn't supported
+
+-- types that are told anew are those that were read
+pub anew_only : (kept types : List ParameterType) (holes b : ℕ) (bytes told rest : List ℕ) → bytes ≡ b ∷ told → b ≡ 1 → HoldTypes kept holes bytes types rest
+    → TellsTypes holes told types rest
+anew_only kept _ holes b _ told rest is one e.kept_on = let first : 0 ≡ b = ap (λ (l : List ℕ). get_or l 0 0) is in absurd (omega (arith, first, one))
+anew_only kept types holes b _ told rest is one (e.anew t) = subst (λ (w : List ℕ). TellsTypes holes w types rest) (ap (λ (l : List ℕ). drop 1 l) is) t
+
+pub err_is : {A E : Type 0} (x y : E) → ◌≡◌ {A = Result A E} (Err x) (Err y) → x ≡ y
+err_is x y e = cc
+
+-- a refusal is the same of another result
+pub err_again : {A B E : Type 0} (x y : E) → ◌≡◌ {A = Result A E} (Err x) (Err y) → ◌≡◌ {A = Result B E} (Err x) (Err y)
+err_again x y e = ap Err (err_is x y e)
+
+-- after the bytes that ask for no cursor
+pub unsupported_parts : (kept : List ParameterType) (long : List (Option (List ℕ))) (bytes parts : List ℕ) → bytes ≡ once ++ parts → IsNotSupported kept long bytes
+    → PartsForeign (length long) parts ⊎ PartsOther kept long parts
+unsupported_parts kept long _ parts is (e.cursor {flags = flags} some) = absurd (some (ap (λ (l : List ℕ). get_or l 0 0) is))
+unsupported_parts kept long _ parts is (e.foreign p) = inl (subst (λ (w : List ℕ). PartsForeign (length long) w) (ap (λ (l : List ℕ). drop 5 l) is) p)
+unsupported_parts kept long _ parts is (e.other p) = inr (subst (λ (w : List ℕ). PartsOther kept long w) (ap (λ (l : List ℕ). drop 5 l) is) p)
+
 -- ---- the loop over holes
 
 pub bound_step : (bitmap : List ℕ) (long : List (Option (List ℕ))) (types : List ParameterType) (bytes : List ℕ) (read pushed : List Value)
@@ -161,15 +237,65 @@ pub bound_step : (bitmap : List ℕ) (long : List (Option (List ℕ))) (types : 
     → BoundSoFar bitmap long types bytes read left kinds rest → left ≡ sent ∷ more → kinds ≡ t ∷ others → is_null ≡ has_bit bitmap (length read)
     → (front : List ℕ) × (rest ≡ front ++ after) × BindsHole is_null sent t front v
     → ((f r : List ℕ) (w : Value) → BindsHole is_null sent t f w → rest ≡ f ++ r → (v ≡ w) × (after ≡ r))
+    → ((f r : List ℕ) → HoleIsOther is_null sent t f → rest ≡ f ++ r → ⊥)
     → pushed ≡ read ++ v ∷ [] → BoundSoFar bitmap long types bytes pushed more others after
-bound_step bitmap long types bytes read pushed sent left more t kinds others rest after v is_null so_far l k n found only p =
+bound_step bitmap long types bytes read pushed sent left more t kinds others rest after v is_null so_far l k n found only no_other p =
     let here : BoundSoFar bitmap long types bytes read (sent ∷ more) (t ∷ others) rest =
     subst (λ (ts : List ParameterType). BoundSoFar bitmap long types bytes read (sent ∷ more) ts rest) k
     (subst (λ (ls : List (Option (List ℕ))). BoundSoFar bitmap long types bytes read ls kinds rest) l so_far) in
     subst (λ (w : List Value). BoundSoFar bitmap long types bytes w more others after) (sym p)
     (bound_next bitmap long types bytes read sent more t others rest after found.0 v here found.1
     (subst (λ (b : Bool). BindsHole b sent t found.0 v) n found.2)
-    (λ f r w h is. only f r w (subst (λ (b : Bool). BindsHole b sent t f w) (sym n) h) is))
+    (λ f r w h is. only f r w (subst (λ (b : Bool). BindsHole b sent t f w) (sym n) h) is)
+    (λ f r h is. no_other f r (subst (λ (b : Bool). HoleIsOther b sent t f) (sym n) h) is))
+
+-- a hole whose bytes spell no value that is taken
+pub other_here : (bitmap : List ℕ) (long : List (Option (List ℕ))) (types : List ParameterType) (bytes : List ℕ) (read : List Value)
+    (sent : Option (List ℕ)) (left more : List (Option (List ℕ))) (t : ParameterType) (kinds others : List ParameterType) (rest : List ℕ) (is_null : Bool)
+    → BoundSoFar bitmap long types bytes read left kinds rest → left ≡ sent ∷ more → kinds ≡ t ∷ others → is_null ≡ has_bit bitmap (length read)
+    → (front : List ℕ) × (after : List ℕ) × (rest ≡ front ++ after) × HoleIsOther is_null sent t front → HoldsOther bitmap 0 long types bytes
+other_here bitmap long types bytes read sent left more t kinds others rest is_null so_far l k n found =
+    let here : HoldsOther bitmap (length read) (sent ∷ more) (t ∷ others) (found.0 ++ found.1) =
+    e.here found.1 (subst (λ (b : Bool). HoleIsOther b sent t found.0) n found.3) in
+    so_far.other
+    (subst (λ (ls : List (Option (List ℕ))). HoldsOther bitmap (length read) ls kinds rest) (sym l)
+    (subst (λ (ts : List ParameterType). HoldsOther bitmap (length read) (sent ∷ more) ts rest) (sym k)
+    (subst (λ (w : List ℕ). HoldsOther bitmap (length read) (sent ∷ more) (t ∷ others) w) (sym found.2) here)))
+
+-- what isn't taken is found at the hole
+other_front : (bitmap : List ℕ) (n : ℕ) (long : List (Option (List ℕ))) (types : List ParameterType) (bytes : List ℕ) → HoldsOther bitmap n long types bytes
+    → (long ≡ [] → ⊥) × (types ≡ [] → ⊥)
+other_front bitmap n _ _ _ (e.here rest hole) = (λ is. cc, λ is. cc)
+other_front bitmap n _ _ _ (e.later hole others) = (λ is. cc, λ is. cc)
+
+pub no_other_left : (bitmap : List ℕ) (long : List (Option (List ℕ))) (types : List ParameterType) (bytes : List ℕ) (read : List Value)
+    (left : List (Option (List ℕ))) (kinds : List ParameterType) (rest : List ℕ) → BoundSoFar bitmap long types bytes read left kinds rest
+    → (left ≡ []) ⊎ (kinds ≡ []) → HoldsOther bitmap 0 long types bytes → ⊥
+no_other_left bitmap long types bytes read left kinds rest so_far (inl none) o = (other_front bitmap (length read) left kinds rest (so_far.other_only o)).0 none
+no_other_left bitmap long types bytes read left kinds rest so_far (inr none) o = (other_front bitmap (length read) left kinds rest (so_far.other_only o)).1 none
+
+other_first : (bitmap : List ℕ) (n : ℕ) (sent : Option (List ℕ)) (long : List (Option (List ℕ))) (t : ParameterType) (types : List ParameterType) (bytes : List ℕ)
+    → HoldsOther bitmap n (sent ∷ long) (t ∷ types) bytes
+    → ((front : List ℕ) × (rest : List ℕ) × (bytes ≡ front ++ rest) × HoleIsOther (has_bit bitmap n) sent t front)
+    ⊎ ((front : List ℕ) × (rest : List ℕ) × (v : Value) × (bytes ≡ front ++ rest) × BindsHole (has_bit bitmap n) sent t front v)
+other_first bitmap n sent long t types _ (e.here {front = front} rest hole) = inl (front, rest, refl, hole)
+other_first bitmap n sent long t types _ (e.later {front = front} {rest = rest} {v = v} hole others) = inr (front, rest, v, refl, hole)
+
+-- a hole that is refused holds it, or has its value and is refused for memory
+pub refused_here : (bitmap : List ℕ) (long : List (Option (List ℕ))) (types : List ParameterType) (bytes : List ℕ) (read : List Value)
+    (sent : Option (List ℕ)) (left more : List (Option (List ℕ))) (t : ParameterType) (kinds others : List ParameterType) (rest : List ℕ) (is_null : Bool) (why : Unread)
+    → BoundSoFar bitmap long types bytes read left kinds rest → left ≡ sent ∷ more → kinds ≡ t ∷ others → is_null ≡ has_bit bitmap (length read)
+    → ((f r : List ℕ) (w : Value) → BindsHole is_null sent t f w → rest ≡ f ++ r → why ≡ u.OutOfMemory)
+    → ((f r : List ℕ) → HoleIsOther is_null sent t f → rest ≡ f ++ r → why ≡ u.NotSupported)
+    → HoldsOther bitmap 0 long types bytes → (why ≡ u.OutOfMemory) ⊎ (why ≡ u.NotSupported)
+refused_here bitmap long types bytes read sent left more t kinds others rest is_null why so_far l k n binds other o =
+    let here : HoldsOther bitmap (length read) (sent ∷ more) (t ∷ others) rest =
+    subst (λ (ts : List ParameterType). HoldsOther bitmap (length read) (sent ∷ more) ts rest) k
+    (subst (λ (ls : List (Option (List ℕ))). HoldsOther bitmap (length read) ls kinds rest) l (so_far.other_only o)) in
+    elim (other_first bitmap (length read) sent more t others rest here) [
+      | inl f ↦ inr (other f.0 f.1 (subst (λ (b : Bool). HoleIsOther b sent t f.0) (sym n) f.3) f.2)
+      | inr f ↦ inl (binds f.0 f.1 f.2 (subst (λ (b : Bool). BindsHole b sent t f.0 f.2) (sym n) f.4) f.3)
+    ]
 
 pub bound_all : (bitmap : List ℕ) (long : List (Option (List ℕ))) (types : List ParameterType) (bytes : List ℕ) (read : List Value)
     (left : List (Option (List ℕ))) (kinds : List ParameterType) (rest : List ℕ) → BoundSoFar bitmap long types bytes read left kinds rest

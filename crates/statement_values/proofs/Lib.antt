@@ -1,2 +1,4 @@
 pub mod Bindings
 pub mod Spelled
+pub mod Powers
+pub mod Wholes

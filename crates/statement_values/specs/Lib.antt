@@ -1,2 +1,4 @@
+pub mod Floats
 pub mod Values
 pub mod Executions
+pub mod inner

@@ -1,5 +1,5 @@
 -- Values as COM_STMT_EXECUTE of the MySQL client/server protocol has them: how the bytes of each type spell a value.
-use Rattle.std.specs.Prelude.{ℕ, ℤ, pos, negsuc, ◌+◌, ◌-◌, ◌<◌, ◌==◌, ◌||◌, ◌&&◌, Bool, true, false, nat_lt, nat_le, List, [], Option, Some, None, if◌then◌else◌}
+use Rattle.std.specs.Prelude.{ℕ, ℤ, pos, negsuc, ◌+◌, ◌-◌, ◌<◌, ◌^◌, ◌==◌, ◌||◌, ◌&&◌, Bool, true, false, nat_lt, nat_le, List, [], Option, Some, None, if◌then◌else◌}
 use Rattle.vt_value.specs.declared.value.Value.{Value}
 use Rattle.vt_value.specs.declared.value.Value.TheVariants.{Null, Int, Bytes}
 use Rattle.mysql_packet.specs.Numbers.{little_endian, length_encoded_string}
@@ -7,6 +7,7 @@ use Rattle.statement_values.specs.declared.ParameterType.{ParameterType}
 use Rattle.statement_values.specs.declared.ParameterType.TheVariants as p
 use Rattle.statement_values.specs.declared.Width.{Width}
 use Rattle.statement_values.specs.declared.Width.TheVariants as w
+use Rattle.statement_values.specs.Floats.{IsSingle, IsDouble, IsInRange}
 
 -- VARCHAR, the four BLOBs, VAR_STRING, STRING
 abbrev pub is_text_type : ℕ → Bool
@@ -30,6 +31,8 @@ abbrev pub type_named : ℕ → ℕ → Option ParameterType
 type_named t flags =
     if t == 0x06 then Some p.Null
     else if is_text_type t then Some p.Text
+    else if t == 0x04 then Some p.Single
+    else if t == 0x05 then Some p.Double
     else number_type (width_named t) flags
 
 -- how many bytes a number has
@@ -54,9 +57,16 @@ half_of w.Two = 0x8000
 half_of w.Four = 0x80000000
 half_of w.Eight = 0x8000000000000000
 
--- The bytes spell the value by its type. NULL has none; a text stands after its length.
+-- The bytes spell the value by its type. NULL has none; a float is a whole number, and a text stands after its length.
 pub data Spells : ParameterType → List ℕ → Value → Type 0 where
   null : Spells p.Null [] Null
   number : {unsigned : Bool} (width : Width) (n : ℕ) → n < half_of width + half_of width
       → Spells (p.Number width unsigned) (little_endian (width_of width) n) (number_of unsigned (half_of width) n)
+  single : {bits : ℕ} {z : ℤ} → bits < 2 ^ 32 → IsSingle bits z → IsInRange z → Spells p.Single (little_endian 4 bits) (Int z)
+  double : {bits : ℕ} {z : ℤ} → bits < 2 ^ 64 → IsDouble bits z → IsInRange z → Spells p.Double (little_endian 8 bits) (Int z)
   text : (bytes : List ℕ) → Spells p.Text (length_encoded_string bytes) (Bytes bytes)
+
+-- The bytes have the form of the type, and spell no value that is taken: a float that isn't whole, or isn't in range.
+pub data SpellsOther : ParameterType → List ℕ → Type 0 where
+  other_single : {bits : ℕ} → bits < 2 ^ 32 → ((z : ℤ) → IsSingle bits z → IsInRange z → ⊥) → SpellsOther p.Single (little_endian 4 bits)
+  other_double : {bits : ℕ} → bits < 2 ^ 64 → ((z : ℤ) → IsDouble bits z → IsInRange z → ⊥) → SpellsOther p.Double (little_endian 8 bits)

@@ -2,7 +2,8 @@
 ghost use Rattle.std.specs.Prelude.{◌≡◌, ◌⊎◌, ◌↔◌, true, ◌+◌, ◌/◌, ◌++◌, ℕ, List, [], ◌∷◌, length, Err, Some, None, IfOk, IfErr, IfSome, IsSomeAnd, MatchResult};
 ghost use Rattle.vt_value.specs.declared.value.Value.{Value};
 ghost use Rattle.statement_values.specs.declared.ParameterType.{ParameterType};
-ghost use Rattle.statement_values.specs.Executions.{has_bit, BindsHole, Binds, HoldTypes, Parts, once, Executes};
+ghost use Rattle.statement_values.specs.Executions.{has_bit, BindsHole, Binds, HoldTypes, Parts, PartsForeign, PartsOther, TellsForeign, HoleIsOther, HoldsOther, once, Executes, IsNotSupported, IsRefusedSo};
+ghost use Rattle.statement_values.specs.inner.Refusals.{AsksCursor};
 
 use crate::ParameterType;
 use crate::reading::read_value;
@@ -38,7 +39,8 @@ fn read_hole<'b>(
     ensures found { IfOk result (λ x. (front : List ℕ) × (bytes.now ≡ front ++ x.1.now) × BindsHole is_null long.now kind front x.0) }
     ensures only { (front rest : List ℕ) (v : Value) → BindsHole is_null long.now kind front v → bytes.now ≡ front ++ rest
         → MatchResult result (λ x. (x.0 ≡ v) × (x.1.now ≡ rest)) (λ e. e ≡ Unread.OutOfMemory) }
-    ensures err { IfErr result (λ e. (e ≡ Unread.OutOfMemory) ⊎ (e ≡ Unread.Wrong)) }
+    ensures other { IfErr result (λ e. e ≡ Unread.NotSupported → (front : List ℕ) × (rest : List ℕ) × (bytes.now ≡ front ++ rest) × HoleIsOther is_null long.now kind front) }
+    ensures refused { (front rest : List ℕ) → HoleIsOther is_null long.now kind front → bytes.now ≡ front ++ rest → result ≡ Err Unread.NotSupported }
 {
     if is_null {
         return Ok((Value::Null, bytes));
@@ -99,7 +101,8 @@ fn read_holes(
     ensures found { IfOk result (λ values. Binds bitmap.now 0 long.now types.now bytes.now values) }
     ensures only { (values : List Value) → Binds bitmap.now 0 long.now types.now bytes.now values
         → MatchResult result (λ x. x ≡ values) (λ e. e ≡ Unread.OutOfMemory) }
-    ensures err { IfErr result (λ e. (e ≡ Unread.OutOfMemory) ⊎ (e ≡ Unread.Wrong)) }
+    ensures other { result ≡ Err Unread.NotSupported → HoldsOther bitmap.now 0 long.now types.now bytes.now }
+    ensures refused { HoldsOther bitmap.now 0 long.now types.now bytes.now → IsRefusedSo result }
 {
     let mut values = Items::new(alloc);
     let mut left = long;
@@ -140,6 +143,8 @@ fn held_types<'b>(
     ensures found { IfOk result (λ x. HoldTypes kept.now holes bytes.now x.0 x.1.now) }
     ensures only { (types : List ParameterType) (rest : List ℕ) → HoldTypes kept.now holes bytes.now types rest
         → MatchResult result (λ x. (x.0 ≡ types) × (x.1.now ≡ rest)) (λ e. e ≡ Unread.OutOfMemory) }
+    ensures foreign { result ≡ Err Unread.NotSupported → (told : List ℕ) × (bytes.now ≡ 0x01 ∷ told) × TellsForeign holes told }
+    ensures refused { (told : List ℕ) → bytes.now ≡ 0x01 ∷ told → TellsForeign holes told → IsRefusedSo result }
 {
     match first_byte(bytes) {
         Some((0, rest)) => {
@@ -177,6 +182,9 @@ fn read_parts(
     ensures found { IfOk result (λ x. Parts kept.now long.now bytes.now x.types x.values) }
     ensures only { (types : List ParameterType) (values : List Value) → Parts kept.now long.now bytes.now types values
         → MatchResult result (λ x. (x.types ≡ types) × (x.values ≡ values)) (λ e. e ≡ Unread.OutOfMemory) }
+    ensures foreign { result ≡ Err Unread.NotSupported → PartsForeign (length long.now) bytes.now ⊎ PartsOther kept.now long.now bytes.now }
+    ensures refused { PartsForeign (length long.now) bytes.now → IsRefusedSo result }
+    ensures other { PartsOther kept.now long.now bytes.now → IsRefusedSo result }
 {
     let Some((bitmap, told)) = bitmap_at(long.len(), bytes) else {
         return Err(Unread::Wrong);
@@ -190,6 +198,7 @@ fn read_parts(
 fn after_once(bytes: &[u8]) -> Result<&[u8], Unread>
     ensures found { IfOk result (λ parts. bytes.now ≡ once ++ parts.now) }
     ensures only { (parts : List ℕ) → bytes.now ≡ once ++ parts → MatchResult result (λ x. x.now ≡ parts) (λ e. ⊥) }
+    ensures cursor { result ≡ Err Unread.NotSupported ↔ AsksCursor bytes.now }
 {
     match bytes {
         [0, 1, 0, 0, 0, parts @ ..] => Ok(parts),
@@ -206,8 +215,12 @@ fn is_bare(long: &[Option<Items<u8>>], parts: &[u8]) -> bool
 }
 
 // Promise: What executes a statement has the values that its bytes spell, and bytes that spell values are taken
+// Clauses: found, only
+// Promise: It is refused as not supported exactly for what isn't: a cursor, a type that isn't taken, or a float that isn't a whole number in range
+// Clauses: not_supported, refused
 /// The types and the values by which these bytes execute a statement, for whose holes this long data came, and whose values had these types
-/// the last time. Bytes that have no values are refused as `Wrong`, or as `NotSupported` if they ask for a cursor or tell a type that isn't taken.
+/// the last time. Bytes that have no values are refused as `Wrong`, or as `NotSupported` if they ask for a cursor, tell a type that isn't taken, or
+/// have a FLOAT or a DOUBLE that is no whole number of BIGINT, with or without a sign.
 pub fn read_execution(
     alloc: Global,
     kept: &[ParameterType],
@@ -215,6 +228,9 @@ pub fn read_execution(
     bytes: &[u8],
 ) -> Result<Execution, Unread>
     ensures found { IfOk result (λ x. Executes kept.now long.now bytes.now x.types x.values) }
+    ensures not_supported { result ≡ Err Unread.NotSupported → IsNotSupported kept.now long.now bytes.now }
+    // If they ask for what isn't supported, that is the refusal, unless memory runs out.
+    ensures refused { IsNotSupported kept.now long.now bytes.now → IsRefusedSo result }
     ensures only { (types : List ParameterType) (values : List Value) → Executes kept.now long.now bytes.now types values
         → MatchResult result (λ x. (x.types ≡ types) × (x.values ≡ values)) (λ e. e ≡ Unread.OutOfMemory) }
 {

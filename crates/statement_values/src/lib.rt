@@ -5,6 +5,7 @@ mod execution;
 mod reading;
 mod types;
 mod unread;
+mod whole;
 
 pub use execution::{Execution, read_execution};
 pub use reading::read_value;
@@ -25,5 +26,8 @@ pub enum ParameterType {
     Null,
     /// A number of so many bytes, and whether it has no sign.
     Number(Width, bool),
+    /// A FLOAT or a DOUBLE, of which only whole numbers are taken.
+    Single,
+    Double,
     Text,
 }

@@ -1,9 +1,10 @@
 //! Reads values.
-ghost use Rattle.std.specs.Prelude.{◌≡◌, ◌⊎◌, ◌++◌, List, ℕ, IfOk, IfErr, IfSome, IsSomeAnd, MatchResult, pos, ◌<◌, ◌+◌};
+ghost use Rattle.std.specs.Prelude.{◌≡◌, ◌⊎◌, ◌++◌, List, ℕ, Err, IfOk, IfErr, IfSome, IsSomeAnd, MatchResult, pos, ◌<◌, ◌+◌};
 ghost use Rattle.mysql_packet.specs.Numbers.{little_endian};
-ghost use Rattle.statement_values.specs.Values.{Spells, number_of, half_of, width_of};
+ghost use Rattle.statement_values.specs.Values.{Spells, SpellsOther, number_of, half_of, width_of};
 
 use crate::unread::Unread;
+use crate::whole::{whole_double, whole_single};
 use crate::{ParameterType, Width};
 use mysql_message::numbers::read_length_encoded_string;
 use std::alloc::Global;
@@ -54,6 +55,40 @@ fn number_of(width: Width, unsigned: bool, n: u64) -> Value
     }
 }
 
+/// The whole number that a FLOAT at the front is, and what follows it.
+fn read_single(bytes: &[u8]) -> Result<(Value, &[u8]), Unread>
+    ensures found { IfOk result (λ x. (front : List ℕ) × (bytes.now ≡ front ++ x.1.now) × Spells ParameterType.Single front x.0) }
+    ensures only { (front rest : List ℕ) (v : Value) → Spells ParameterType.Single front v → bytes.now ≡ front ++ rest
+        → MatchResult result (λ x. (x.0 ≡ v) × (x.1.now ≡ rest)) (λ e. ⊥) }
+    ensures other { IfErr result (λ e. e ≡ Unread.NotSupported → (front : List ℕ) × (rest : List ℕ) × (bytes.now ≡ front ++ rest) × SpellsOther ParameterType.Single front) }
+    ensures refused { (front rest : List ℕ) → SpellsOther ParameterType.Single front → bytes.now ≡ front ++ rest → result ≡ Err Unread.NotSupported }
+{
+    match unsigned_at(Width::Four, bytes) {
+        Some((bits, rest)) => match whole_single(bits) {
+            Some(n) => Ok((Value::Int(n), rest)),
+            None => Err(Unread::NotSupported),
+        },
+        None => Err(Unread::Wrong),
+    }
+}
+
+/// The whole number that a DOUBLE at the front is, and what follows it.
+fn read_double(bytes: &[u8]) -> Result<(Value, &[u8]), Unread>
+    ensures found { IfOk result (λ x. (front : List ℕ) × (bytes.now ≡ front ++ x.1.now) × Spells ParameterType.Double front x.0) }
+    ensures only { (front rest : List ℕ) (v : Value) → Spells ParameterType.Double front v → bytes.now ≡ front ++ rest
+        → MatchResult result (λ x. (x.0 ≡ v) × (x.1.now ≡ rest)) (λ e. ⊥) }
+    ensures other { IfErr result (λ e. e ≡ Unread.NotSupported → (front : List ℕ) × (rest : List ℕ) × (bytes.now ≡ front ++ rest) × SpellsOther ParameterType.Double front) }
+    ensures refused { (front rest : List ℕ) → SpellsOther ParameterType.Double front → bytes.now ≡ front ++ rest → result ≡ Err Unread.NotSupported }
+{
+    match unsigned_at(Width::Eight, bytes) {
+        Some((bits, rest)) => match whole_double(bits) {
+            Some(n) => Ok((Value::Int(n), rest)),
+            None => Err(Unread::NotSupported),
+        },
+        None => Err(Unread::Wrong),
+    }
+}
+
 /// The value of a type at the front, and what follows it. Bytes that are no value of the type are refused.
 pub fn read_value(
     alloc: Global,
@@ -63,7 +98,8 @@ pub fn read_value(
     ensures found { IfOk result (λ x. (front : List ℕ) × (bytes.now ≡ front ++ x.1.now) × Spells kind front x.0) }
     ensures only { (front rest : List ℕ) (v : Value) → Spells kind front v → bytes.now ≡ front ++ rest
         → MatchResult result (λ x. (x.0 ≡ v) × (x.1.now ≡ rest)) (λ e. e ≡ Unread.OutOfMemory) }
-    ensures err { IfErr result (λ e. (e ≡ Unread.OutOfMemory) ⊎ (e ≡ Unread.Wrong)) }
+    ensures other { IfErr result (λ e. e ≡ Unread.NotSupported → (front : List ℕ) × (rest : List ℕ) × (bytes.now ≡ front ++ rest) × SpellsOther kind front) }
+    ensures refused { (front rest : List ℕ) → SpellsOther kind front → bytes.now ≡ front ++ rest → result ≡ Err Unread.NotSupported }
 {
     match kind {
         ParameterType::Null => Ok((Value::Null, bytes)),
@@ -71,6 +107,8 @@ pub fn read_value(
             Some((n, rest)) => Ok((number_of(width, unsigned, n), rest)),
             None => Err(Unread::Wrong),
         },
+        ParameterType::Single => read_single(bytes),
+        ParameterType::Double => read_double(bytes),
         ParameterType::Text => match read_length_encoded_string(bytes) {
             Some((text, rest)) => Ok((Value::Bytes(Items::from_slice(alloc, text)?), rest)),
             None => Err(Unread::Wrong),

@@ -2,7 +2,7 @@
 ghost use Rattle.std.specs.Prelude.{◌≡◌, ◌<◌, ℕ, List, ◌∷◌, length, IfOk, IfSome, MatchResult, Err, None};
 ghost use Rattle.statement_values.specs.declared.ParameterType.{ParameterType};
 ghost use Rattle.statement_values.specs.Values.{is_text_type, width_named, number_type, type_named};
-ghost use Rattle.statement_values.specs.Executions.{TellsTypes};
+ghost use Rattle.statement_values.specs.Executions.{TellsTypes, TellsForeign, IsRefusedSo};
 
 use crate::unread::Unread;
 use crate::{ParameterType, Width};
@@ -48,6 +48,10 @@ fn type_named(named: u8, flags: u8) -> Option<ParameterType>
         Some(ParameterType::Null)
     } else if is_text_type(named) {
         Some(ParameterType::Text)
+    } else if named == 0x04 {
+        Some(ParameterType::Single)
+    } else if named == 0x05 {
+        Some(ParameterType::Double)
     } else {
         number_type(width_named(named), flags)
     }
@@ -73,8 +77,8 @@ pub(crate) fn read_types(
     ensures found { IfOk result (λ x. TellsTypes count bytes.now x.0 x.1.now) }
     ensures only { (types : List ParameterType) (rest : List ℕ) → TellsTypes count bytes.now types rest
         → MatchResult result (λ x. (x.0 ≡ types) × (x.1.now ≡ rest)) (λ e. e ≡ Unread.OutOfMemory) }
-    ensures foreign { result ≡ Err Unread.NotSupported → (n t flags : ℕ) × (types : List ParameterType) × (rest : List ℕ)
-        × TellsTypes n bytes.now types (t ∷ flags ∷ rest) × (type_named t flags ≡ None) }
+    ensures foreign { result ≡ Err Unread.NotSupported → TellsForeign count bytes.now }
+    ensures refused { TellsForeign count bytes.now → IsRefusedSo result }
 {
     let mut types = Items::new(alloc);
     let mut rest = bytes;

@@ -1,5 +1,5 @@
 use Rattle.std.proofs.Common.{sym, ◌∙◌}
-use Rattle.statement_values.proofs.Bindings.{types_begin, types_told, types_short, types_foreign, types_all}
+use Rattle.statement_values.proofs.Bindings.{types_begin, types_told, types_short, types_foreign, types_all, foreign_left, foreign_end}
 use Rattle.statement_values.proofs.types.read_types.Goals as goal
 
 pub loop-rest-init : goal.loop-rest-init
@@ -25,3 +25,11 @@ pub returns-clause-only : goal.returns-clause-only
 returns-clause-only c = λ types rest told.
     types_all c.args.count c.args.bytes.now c.loop-rest.rest.now rest c.loop-rest.types types c.loop-rest.invariant
     (rw c.len.ensures at c.loop-rest-test.false) told
+
+pub returns-in_default-clause-refused : goal.returns-in_default-clause-refused
+returns-in_default-clause-refused c = λ f.
+    absurd (foreign_left c.args.count c.args.bytes.now c.loop-rest.rest.now c.loop-rest.types c.loop-rest.invariant f (c.two_bytes.ensures.none c.in_default.is))
+
+pub returns-clause-refused : goal.returns-clause-refused
+returns-clause-refused c = λ f.
+    foreign_end c.args.count c.args.bytes.now c.loop-rest.rest.now c.loop-rest.types c.loop-rest.invariant f (rw c.len.ensures at c.loop-rest-test.false)
