@@ -6,14 +6,15 @@
    many hold PORT USER PASSWORD DATABASE ROWS CONNECTIONS
        has so many connections log in, prints `held`, and closes them once its input ends
    many storm PORT USER PASSWORD DATABASE ROWS CONNECTIONS
-       has so many connections log in at the same time; prints the nanoseconds until the last has, and the 500th and 990th of 1000 logins */
+       has so many connections log in at the same time; prints the nanoseconds until the last has, the 500th and 990th of 1000 logins, and how many
+       aren't logged in after PATIENCE seconds: a connection that the system has dropped from a full queue waits for its greeting for ever */
 #define main main_of_serve
 #include "../serve/load.c"
 #undef main
 #include <sys/epoll.h>
 #include <sys/resource.h>
 
-enum { MOST_THREADS = 4, EVENTS = 64, STACK = 1 << 17 };
+enum { MOST_THREADS = 4, EVENTS = 64, STACK = 1 << 17, PATIENCE = 20 };
 
 /* A connection that is asked again as soon as it has answered. */
 struct busy {
@@ -125,12 +126,13 @@ static void hold(const struct place *place, unsigned connections) {
 
 static const struct place *stormed;
 static uint64_t stormed_from;
+static unsigned logged_in;
 
 static void *log_in_now(void *taken) {
     pthread_barrier_wait(&ready);
     open_connection(stormed);
     *(uint32_t *)taken = now() - stormed_from;
-    pthread_barrier_wait(&ready);
+    __atomic_add_fetch(&logged_in, 1, __ATOMIC_ACQ_REL);
     return NULL;
 }
 
@@ -149,9 +151,14 @@ static void storm(const struct place *place, unsigned connections) {
     }
     stormed_from = now();
     pthread_barrier_wait(&ready);
-    pthread_barrier_wait(&ready);
+    while (__atomic_load_n(&logged_in, __ATOMIC_ACQUIRE) < connections && now() < stormed_from + PATIENCE * 1000000000ull)
+        usleep(1000);
+    unsigned lost = connections - __atomic_load_n(&logged_in, __ATOMIC_ACQUIRE);
+    for (unsigned i = 0; i < connections; i++)
+        if (taken[i] == 0)
+            taken[i] = UINT32_MAX;
     qsort(taken, connections, sizeof *taken, compare);
-    printf("%u %u %u\n", taken[connections - 1], taken[connections / 2], taken[connections * 99ul / 100]);
+    printf("%u %u %u %u\n", taken[connections - 1], taken[connections / 2], taken[connections * 99ul / 100], lost);
 }
 
 int main(int count, char **words) {

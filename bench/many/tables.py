@@ -18,6 +18,7 @@ again once it has answered. A cell is the round with the middle rate of {how}, a
 The table has {rows} rows on 4 shards. `router 8` has 8 workers. MariaDB's server ({version}) has a thread for each connection, or, as `pool`, its pool of
 threads. Rates are statements a second, latencies microseconds. Client and servers share the processors, so compare ratios, not figures.
 """
+NEVER = (1 << 32) - 1
 KINDS = {"point": "Points: `SELECT c FROM t WHERE id = N`", "mix": "Mix: Of 20 statements 16 points, 2 updates, 1 insert, 1 scatter over 4 shards"}
 
 
@@ -81,9 +82,10 @@ def idle(cells):
 
 def storms(cells):
     (count, _), servers = next(iter(cells.items()))
-    yield from ("### Logins at the same time", "", f"Milliseconds until {int(count):,} clients that connect at once are logged in.", "")
-    rows = [[shown(name), *(f"{it / 1e6:.0f}" for it in figures)] for name, figures in servers.items()]
-    yield from table(["server", "all", "50th", "99th"], rows)
+    yield from ("### Logins at the same time", "", f"Milliseconds until {int(count):,} clients that connect at once are logged in, and how many aren't after 20 s.", "")
+    told = lambda it: f"{it / 1e6:.0f}" if it < NEVER else "never"
+    rows = [[shown(name), *map(told, figures[:3]), f"{figures[3]:.0f}"] for name, figures in servers.items()]
+    yield from table(["server", "all", "50th", "99th", "lost"], rows)
 
 
 def main():
