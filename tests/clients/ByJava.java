@@ -75,7 +75,7 @@ public class ByJava {
             String text = unescaped(value.substring(1, value.length() - 1));
             byte[] bytes = text.getBytes(StandardCharsets.ISO_8859_1);
             if (isLong) statement.setBinaryStream(at, new ByteArrayInputStream(bytes));
-            else if (hasBytes) statement.setBytes(at, bytes);
+            else if (hasBytes && text.chars().anyMatch(it -> it > 0x7e)) statement.setBytes(at, bytes);
             else statement.setString(at, text);
         }
     }
