@@ -118,17 +118,17 @@ def measure_rates(words, asked):
 def measure_among_idle(words, asked):
     """Points of some busy connections alone, and while so many others are idle, in turns; and the bytes that each of these takes."""
     for it in asked:
-        ratios, cells, bytes_each = [], [], []
+        ratios, cells, held = [], [], []
         for _ in range(words.rounds):
             alone = it.run("point", BUSY, words.seconds)
             before = it.memory()
             holder = it.hold(words.idle)
-            bytes_each.append(max(0, it.memory() - before) // words.idle)
+            held.append((max(0, it.memory() - before) // words.idle, it.memory()))
             cells.append(it.run("point", BUSY, words.seconds))
             release(it, holder)
             ratios.append(cells[-1][0] / alone[0])
         # what is given back as connections end is taken again, so the first round tells what an idle one takes
-        print("idle", words.idle, BUSY, it.name, *middle_cell(cells), f"{sorted(ratios)[len(ratios) // 2]:.3f}", bytes_each[0], it.memory(), flush=True)
+        print("idle", words.idle, BUSY, it.name, *middle_cell(cells), f"{sorted(ratios)[len(ratios) // 2]:.3f}", *held[0], flush=True)
 
 
 def measure_storms(words, asked):

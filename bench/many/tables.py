@@ -73,10 +73,10 @@ def idle(cells):
     (count, busy), servers = next(iter(cells.items()))
     yield from ("### Busy connections among idle ones", "")
     yield from (f"Points of {busy} connections while {int(count):,} others are idle; the ratio is to their rate alone, in the same round.", "")
-    head = ["server", "statements a second", "50th", "99th", "99.9th", "ratio to alone", "bytes of an idle connection"]
+    head = ["server", "statements a second", "50th", "99th", "99.9th", "ratio to alone", "bytes of an idle connection", "MB of the process"]
     rows = []
-    for name, (rate, half, most, longest, ratio, each, _) in servers.items():
-        rows.append([shown(name), f"{rate:.0f}", *map(microseconds, (half, most, longest)), f"{ratio:.2f}", f"{each:.0f}"])
+    for name, (rate, half, most, longest, ratio, each, held) in servers.items():
+        rows.append([shown(name), f"{rate:.0f}", *map(microseconds, (half, most, longest)), f"{ratio:.2f}", f"{each:.0f}", f"{held / 1e6:.0f}"])
     yield from table(head, rows)
 
 
@@ -88,10 +88,23 @@ def storms(cells):
     yield from table(["server", "all", "50th", "99th", "lost"], rows)
 
 
+def wishes(cells):
+    """How far the figures are from what is wished of them, for who measures."""
+    for (kind, count), servers in cells["rate"].items():
+        mine = servers[chosen(servers)][0]
+        base = cells["rate"].get((kind, 32), servers)[chosen(servers)][0]
+        if count in (256, 1000):
+            yield f"{kind} of {count}: {mine / base:.2f} of the rate of 32 (wished: 1), {mine / servers['MariaDB'][0]:.2f} times MariaDB's (3)"
+    for what, one, name in (("idle", 4, "busy ones keep {:.2f} of their rate (0.95)"), ("idle", 6, "the process has {:.0f} bytes (120 MB)"), ("storm", 0, "all log in within {:.0f} ns (a second)")):
+        servers = next(iter(cells[what].values()))
+        yield name.format(servers[chosen(servers)][one])
+
+
 def main():
     cells = read_cells(pathlib.Path(sys.argv[1]))
     how, of_rows, version = sys.argv[2:5]
     head = HEAD.format(day=datetime.date.today(), cores=os.cpu_count(), how=how, rows=of_rows, version=version)
+    print(*wishes(cells), sep="\n", file=sys.stderr)
     part = "\n".join([head, *rates(cells["rate"]), *idle(cells["idle"]), *storms(cells["storm"])])
     if len(sys.argv) > 5:
         page.put(pathlib.Path(sys.argv[5]), "many.sh", part)
