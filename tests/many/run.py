@@ -8,6 +8,7 @@ import pathlib
 import resource
 import select
 import socket
+import struct
 import sys
 import threading
 import time
@@ -15,7 +16,7 @@ import traceback
 
 sys.path.insert(0, str(pathlib.Path(__file__).resolve().parents[1] / "clients"))
 
-from packets import PING, QUERY, Client, Closed, error_of
+from packets import PING, QUERY, QUIT, Client, Closed, error_of
 from router import USER, Router
 
 CONNECTIONS = int(os.environ.get("CONNECTIONS", "10000"))
@@ -206,6 +207,68 @@ def ten_thousand_connections(program):
             time.sleep(0.1)
         check("all are closed", router.descriptors() <= 40)
         check("and a new one answers", answers(log_in(router)))
+
+
+class Passers(Group):
+    """Clients each of which goes once it has worked, in one of four ways, and another comes in its place."""
+
+    def __init__(self, router, workers, is_over):
+        super().__init__(workers, is_over)
+        self.router, self.gone = router, 0
+
+    def go(self, worker):
+        client, way = worker.client, self.gone % 4
+        if way == 1:
+            client.command(QUIT)
+        elif way == 2:
+            # what a client leaves that goes in a transaction is dropped
+            client.query(b"BEGIN")
+            client.query(f"UPDATE t SET c = 1 WHERE id = {worker.place * ROWS_EACH}".encode())
+        elif way == 3:
+            client.socket.setsockopt(socket.SOL_SOCKET, socket.SO_LINGER, struct.pack("ii", 1, 0))
+        client.socket.close()
+        self.gone += 1
+        worker.client = log_in(self.router)
+
+    def run(self):
+        try:
+            while not self.is_over.is_set():
+                for worker in self.workers:
+                    worker.act()
+                    self.go(worker)
+        except Exception:
+            self.fault = traceback.format_exc()
+
+
+@case
+def a_thousand_come_and_go(program):
+    with Router(program, workers=8, buffer=4, descriptors=2500) as router:
+        working = [Works(log_in(router), place) for place in range(1000)]
+        others = router.descriptors() - len(working)
+        is_over = threading.Event()
+        groups = [Passers(router, working[place::THREADS], is_over) for place in range(THREADS)]
+        for group in groups:
+            group.start()
+        for _ in range(2):
+            time.sleep(2)
+            administer(router, "create -40 -20,20-40", "switch", "complete")
+            time.sleep(2)
+            administer(router, "create -20,20-40 -40", "switch", "complete")
+        is_over.set()
+        for group in groups:
+            group.join(60)
+            check("a group of clients came and went", group.fault, None)
+        gone = sum(group.gone for group in groups)
+        print(f"  {gone} came and went, {sum(each.done for each in working)} writes and as many reads", flush=True)
+        check("each place was taken again", gone > 1000)
+        wanted = sorted([str(row).encode(), str(value).encode()] for each in working for row, value in each.rows.items())
+        check("each row is what was written", sorted(rows_of(working[0].client.query(b"SELECT id, c FROM t"))) == wanted)
+        for each in working:
+            each.client.socket.close()
+        deadline = time.monotonic() + 20
+        while router.descriptors() > others and time.monotonic() < deadline:
+            time.sleep(0.1)
+        check("nothing is left open", router.descriptors(), others)
 
 
 def refused(router):
