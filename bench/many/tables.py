@@ -82,7 +82,8 @@ def idle(cells):
 
 def storms(cells):
     (count, _), servers = next(iter(cells.items()))
-    yield from ("### Logins at the same time", "", f"Milliseconds until {int(count):,} clients that connect at once are logged in, and how many aren't after 20 s.", "")
+    yield from ("### Logins at the same time", "")
+    yield from (f"Milliseconds until {int(count):,} clients that connect at once are logged in, and how many aren't after 20 s.", "")
     told = lambda it: f"{it / 1e6:.0f}" if it < NEVER else "never"
     rows = [[shown(name), *map(told, figures[:3]), f"{figures[3]:.0f}"] for name, figures in servers.items()]
     yield from table(["server", "all", "50th", "99th", "lost"], rows)
@@ -95,7 +96,11 @@ def wishes(cells):
         base = cells["rate"].get((kind, 32), servers)[chosen(servers)][0]
         if count in (256, 1000):
             yield f"{kind} of {count}: {mine / base:.2f} of the rate of 32 (wished: 1), {mine / servers['MariaDB'][0]:.2f} times MariaDB's (3)"
-    for what, one, name in (("idle", 4, "busy ones keep {:.2f} of their rate (0.95)"), ("idle", 6, "the process has {:.0f} bytes (120 MB)"), ("storm", 0, "all log in within {:.0f} ns (a second)")):
+    for what, one, name in (
+        ("idle", 4, "busy ones keep {:.2f} of their rate (0.95)"),
+        ("idle", 6, "the process has {:.0f} bytes (120 MB)"),
+        ("storm", 0, "all log in within {:.0f} ns (a second)"),
+    ):
         servers = next(iter(cells[what].values()))
         yield name.format(servers[chosen(servers)][one])
 
