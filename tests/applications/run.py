@@ -12,6 +12,7 @@ from collections import Counter
 
 import pymysql
 
+from as_prepared import make_client, run_prepared
 from frameworks import PROGRAMS, run_frameworks
 from servers import PASSWORD, MariaDB, sharded_keyspace, tables_of
 
@@ -120,6 +121,11 @@ class Application:
         """How many queries there are: what begins and ends a transaction is none."""
         return sum(text.split()[0] not in ("BEGIN", "START", "COMMIT", "ROLLBACK") for unit in self.units for _, text, _ in unit)
 
+    def accepted_reads(self, refused):
+        """The SELECTs that stand alone and are accepted, each with its outcome."""
+        alone = [unit[0] for unit in self.units if len(unit) == 1]
+        return [(text, outcome) for _, text, outcome in alone if text.upper().startswith("SELECT") and (self.name, text) not in refused]
+
     def filled(self, port, first=()):
         connection = pymysql.connect(host="127.0.0.1", port=port, user=USER, password=PASSWORD, database=self.database, autocommit=True)
         for text in [*first, *self.rows]:
@@ -157,9 +163,16 @@ class Application:
             check(f"{name}: accepted, and isn't marked", mark, None)
 
 
+def count_of(refused):
+    """How many are refused for each reason."""
+    counts = Counter(reason for _, reason in refused.values())
+    return ", ".join(f"{count} {reason}" for reason, count in counts.most_common()) or "none"
+
+
 def run_applications(program, mariadb, marks, writes):
-    """Runs the queries of all applications. Returns the marks of what is refused now, and how many queries there are."""
-    refused, everything = {}, 0
+    """Runs the queries of all applications, as texts and prepared. Returns the marks of what is refused now of either, and how many there are."""
+    refused, prepared, everything, everything_prepared = {}, {}, 0, 0
+    make_client()
     for folder in sorted(it.parent for it in HERE.glob("*/queries")):
         mariadb.make(folder / "schema.json")
         application = Application(folder, program, mariadb)
@@ -168,15 +181,15 @@ def run_applications(program, mariadb, marks, writes):
         print(f"{application.name}: {count - len(mine)} of {count} queries are accepted", flush=True)
         everything += count
         refused |= mine
+        accepted = application.accepted_reads(mine)
+        prepared |= run_prepared(application, accepted, marks, check)
+        everything_prepared += len(accepted)
         if writes:
             write_units(application.path, application.units)
-    return refused, everything
-
-
-def count_of(refused):
-    """How many are refused for each reason."""
-    counts = Counter(reason for _, reason in refused.values())
-    return ", ".join(f"{count} {reason}" for reason, count in counts.most_common()) or "none"
+    print(f"queries that are refused: {count_of(refused)}")
+    print(f"queries: {everything - len(refused)} of {everything} are accepted")
+    print(f"SELECTs that are accepted: {everything_prepared - len(prepared)} of {everything_prepared} are prepared statements too")
+    return refused | prepared
 
 
 def main():
@@ -186,7 +199,7 @@ def main():
     head, marks = read_marks()
     mariadb = MariaDB(work)
     try:
-        queries, query_count = run_applications(program, mariadb, marks, "--write" in choices)
+        queries = run_applications(program, mariadb, marks, "--write" in choices)
         if "--queries" in choices:
             steps, step_count = {key: mark for key, mark in marks.items() if key[0] in PROGRAMS}, 0
         else:
@@ -195,8 +208,6 @@ def main():
         mariadb.stop()
     if "--write" in choices:
         write_marks(head, queries | steps)
-    print(f"queries that are refused: {count_of(queries)}")
-    print(f"queries: {query_count - len(queries)} of {query_count} are accepted")
     if step_count:
         print(f"steps that are refused: {count_of(steps)}")
         print(f"steps of frameworks: {step_count - len(steps)} of {step_count} are as MariaDB's server has them")

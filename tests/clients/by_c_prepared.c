@@ -5,7 +5,7 @@
 #include <stdlib.h>
 #include <string.h>
 
-enum { MOST_VALUES = 8, MOST_COLUMNS = 8, MOST_BYTES = 4096 };
+enum { MOST_VALUES = 8, MOST_COLUMNS = 32, MOST_BYTES = 4096 };
 
 struct value {
     char bytes[MOST_BYTES];
