@@ -7,7 +7,7 @@
 # PROGRAM is proved and built if none is given. Needs a C compiler; installs Debian's MariaDB server if there is none.
 set -euo pipefail
 top=$(cd "$(dirname "$0")/.." && pwd)
-. "$top/scripts/program.sh"
+. "$top/bench/choices.sh"
 kinds=point,mix connections=1,4,16,32,64,256,1000,4000 workers=4,8,32 rounds=3 seconds=0.35 rows=20000 idle=10000 logins=1000
 document=() program=''
 while [ $# -gt 0 ]; do
@@ -27,13 +27,13 @@ while [ $# -gt 0 ]; do
     esac
     shift
 done
-have_packages mariadb-server mariadb-client
+version=$(mariadb_version)
 program=$(program_of vtgate_main "$program")
 work=$(mktemp -d)
 trap 'rm -rf "$work"' EXIT
-for it in serve many; do "${CC:-cc}" -O2 -Wall -Wextra -D_GNU_SOURCE -o "$work/$it" "$top/bench/$it/load.c" -lpthread; done
+compile_load "$work/serve"
+"${CC:-cc}" -O2 -Wall -Wextra -D_GNU_SOURCE -o "$work/many" "$top/bench/many/load.c" -lpthread
 ulimit -n "$(ulimit -Hn)"
 python3 "$top/bench/many/measure.py" "$(realpath "$program")" "$work/serve" "$work/many" "$work" --kinds "$kinds" --connections "$connections" \
     --workers "$workers" --rounds "$rounds" --seconds "$seconds" --rows "$rows" --idle "$idle" --logins "$logins" | tee "$work/cells" >&2
-version=$(dpkg-query -W -f '${Version}' mariadb-server)
 python3 "$top/bench/many/tables.py" "$work/cells" "$rounds rounds of $seconds seconds" "$rows" "$version" "${document[@]}"
