@@ -3,7 +3,8 @@
 # and what tests/applications has; then small programs of frameworks. What the router refuses is marked in tests/applications/refused.
 # Ends with `applications: N passed, 0 failed`, after lines that count what is accepted of all.
 # Usage: tests/applications.sh [--write] [--queries] [PROGRAM]   (proved and built if none is given; installs Debian's packages)
-# --write: takes over what MariaDB's server answers, and the marks of what is accepted now. --queries: without the frameworks.
+# --write: takes over what MariaDB's server answers, the marks of what is accepted now, and the counts of docs/CLIENTS.md. --queries: without the
+# frameworks.
 set -euo pipefail
 top=$(cd "$(dirname "$0")/.." && pwd)
 . "$top/scripts/program.sh"

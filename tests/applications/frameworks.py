@@ -83,8 +83,8 @@ def lacking(packages):
 
 
 def run_frameworks(program, mariadb, marks, check):
-    """Runs all. Returns the marks of what is refused now, and how many steps there are."""
-    refused, everything = {}, 0
+    """Runs all. Returns the marks of what is refused now, and by program how many of its steps are as they should be, of how many."""
+    refused, counts = {}, {}
     database = mariadb.make(SCHEMA)
     gone = install_packages()
     for name, (_, call) in PROGRAMS.items():
@@ -101,9 +101,9 @@ def run_frameworks(program, mariadb, marks, check):
         if not mine:
             check(f"{name}: what is in the tables", left, kept(mariadb.port, database))
         print(f"{name}: {len(there) - len(mine)} of {len(there)} steps are as MariaDB's server has them", flush=True)
-        everything += len(there)
+        counts[name] = (len(there) - len(mine), len(there))
         refused |= mine
-    return refused, everything
+    return refused, counts
 
 
 def compare(name, got, there, marks, check):

@@ -12,6 +12,7 @@ from collections import Counter
 
 import pymysql
 
+import document
 from as_prepared import make_client, run_prepared
 from frameworks import PROGRAMS, run_frameworks
 from servers import PASSWORD, MariaDB, sharded_keyspace, tables_of
@@ -170,8 +171,8 @@ def count_of(refused):
 
 
 def run_applications(program, mariadb, marks, writes):
-    """Runs the queries of all applications, as texts and prepared. Returns the marks of what is refused now of either, and how many there are."""
-    refused, prepared, everything, everything_prepared = {}, {}, 0, 0
+    """Runs the queries of all applications, as texts and prepared. Returns the marks of what is refused now of either, and what a document says."""
+    refused, prepared, counts, reads = {}, {}, {}, 0
     make_client()
     for folder in sorted(it.parent for it in HERE.glob("*/queries")):
         mariadb.make(folder / "schema.json")
@@ -179,17 +180,18 @@ def run_applications(program, mariadb, marks, writes):
         mine = application.run(marks)
         count = application.count()
         print(f"{application.name}: {count - len(mine)} of {count} queries are accepted", flush=True)
-        everything += count
+        counts[application.name] = (count - len(mine), count)
         refused |= mine
         accepted = application.accepted_reads(mine)
         prepared |= run_prepared(application, accepted, marks, check)
-        everything_prepared += len(accepted)
+        reads += len(accepted)
         if writes:
             write_units(application.path, application.units)
     print(f"queries that are refused: {count_of(refused)}")
+    everything = sum(count for _, count in counts.values())
     print(f"queries: {everything - len(refused)} of {everything} are accepted")
-    print(f"SELECTs that are accepted: {everything_prepared - len(prepared)} of {everything_prepared} are prepared statements too")
-    return refused | prepared
+    print(f"SELECTs that are accepted: {reads - len(prepared)} of {reads} are prepared statements too")
+    return refused | prepared, document.part(counts, refused, prepared, reads)
 
 
 def main():
@@ -199,16 +201,18 @@ def main():
     head, marks = read_marks()
     mariadb = MariaDB(work)
     try:
-        queries = run_applications(program, mariadb, marks, "--write" in choices)
+        queries, told = run_applications(program, mariadb, marks, "--write" in choices)
         if "--queries" in choices:
-            steps, step_count = {key: mark for key, mark in marks.items() if key[0] in PROGRAMS}, 0
+            steps, step_counts = {key: mark for key, mark in marks.items() if key[0] in PROGRAMS}, {}
         else:
-            steps, step_count = run_frameworks(program, mariadb, marks, check)
+            steps, step_counts = run_frameworks(program, mariadb, marks, check)
     finally:
         mariadb.stop()
     if "--write" in choices:
         write_marks(head, queries | steps)
-    if step_count:
+        document.write(told, step_counts)
+    if step_counts:
+        step_count = sum(count for _, count in step_counts.values())
         print(f"steps that are refused: {count_of(steps)}")
         print(f"steps of frameworks: {step_count - len(steps)} of {step_count} are as MariaDB's server has them")
     print(f"applications: {passed} passed, {failed} failed")
