@@ -45,7 +45,7 @@ ROWS = {
     "ActiveRecord": "ActiveRecord",
     "Sequel": "Sequel",
     "DBIx::Class": "DBIx::Class",
-    "sysbench": "sysbench",
+    "sysbench's_scripts": "sysbench",
 }
 
 

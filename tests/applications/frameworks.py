@@ -26,7 +26,7 @@ PROGRAMS = {
     "ActiveRecord": (("ruby", "ruby-activerecord", "ruby-mysql2"), ("ruby", "by_activerecord.rb")),
     "Sequel": (("ruby", "ruby-sequel", "ruby-mysql2"), ("ruby", "by_sequel.rb")),
     "DBIx::Class": (("libdbix-class-perl", "libdbd-mysql-perl"), ("perl", "by_dbix_class.pl")),
-    "sysbench": (("sysbench",), (PYTHON, "by_sysbench.py")),
+    "sysbench's_scripts": (("sysbench",), (PYTHON, "by_sysbench.py")),
 }
 
 
