@@ -11,7 +11,7 @@ mod time;
 mod writer;
 
 pub use forging::no_line_is_forged;
-pub use level::{VARIABLE, asked_level, environment_level};
+pub use level::{VARIABLE, asked_level, environment_level, found_level};
 pub use line::{LogLine, line_of};
 pub use queue::{LineQueue, QUEUED_LINES};
 pub use sink::LineSink;

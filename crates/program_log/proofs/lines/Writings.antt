@@ -1,11 +1,12 @@
 -- What a device takes, write by write.
-use Rattle.std.proofs.Common.{◌≡◌, ◌<◌, ◌≤◌, ◌+◌, ◌-◌, ◌^◌, ◌⊎◌, ◌&&◌, ℕ, zero, suc, min, nat_lt, nat_eq, Bool, true, false, List, [], ◌++◌, length, take, drop, Option, Some, None, refl, sym, ◌∙◌, ap, subst, inl, inr, arith}
+use Rattle.std.proofs.Common.{◌≡◌, ◌<◌, ◌≤◌, ◌⊎◌, ◌&&◌, ℕ, zero, suc, nat_lt, nat_eq, Bool, true, false, List, [], ◌++◌, length, take, drop, Option, Some, None, refl, sym, ◌∙◌, ap, subst, inl, inr, arith}
 use Rattle.std.proofs.lemmas.List.{append-nil, take-append-drop, length-take-le}
 use Rattle.std.specs.Io.KnownBytes.{Appends, Keeps}
-use Rattle.std.proofs.KnownBytes.{Appends-trans}
+use Rattle.std.proofs.KnownBytes.{Appends-nil, Appends-trans}
 use Rattle.std.proofs.lemmas.Bool.Decides.{nat_tests}
 use Rattle.jiff.specs.Types.{Timestamp}
-use Rattle.program_log.specs.lines.Writing.{IsReport, mended, TakesPart}
+use Rattle.program_log.specs.lines.Writing as w
+use Rattle.program_log.specs.lines.Writing.{IsReport, mended, TakesPart, TakesPartOfReport, IsLost}
 
 abbrev Known : Type 0
 Known = Option (List ℕ)
@@ -58,10 +59,30 @@ pub both : (torn : Bool) (a b c : Known) (report line : List ℕ) → Appends a 
 both torn a b c report line first then =
     subst (Appends a c) (mended-append torn report line) (Appends-trans a b c (mended torn report) line first then)
 
--- a report that was written, where one was needed, and then a part of a line
-pub untold_after : (lost : ℕ) (torn : Bool) (t : Timestamp) (a b c : Known) → (0 < lost → (bytes : List ℕ) × IsReport t lost bytes × Appends a b (mended torn bytes))
-    → (taken : List ℕ) → Appends b c taken
-    → (◌≡◌ {A = ℕ} 1 (min (lost + 1) (2 ^ 64 - 1))) ⊎ ((◌≡◌ {A = ℕ} 1 1) × (bytes : List ℕ) × IsReport t lost bytes × (more : List ℕ) × Appends a c (mended torn (bytes ++ more)))
-untold_after zero torn t a b c report taken then = inl refl
-untold_after (suc n) torn t a b c report taken then =
-    let r = report (omega arith) in inr (refl, r.0, r.1, taken, both torn a b c r.0 taken r.2 then)
+-- a line that is lost after others of which a report was written, if there were any
+pub lost_after : (lost : ℕ) (torn mid after : Bool) (t : Timestamp) (line : List ℕ) (a b c : Known) → (lost ≡ 0 → (mid ≡ torn) × (b ≡ a))
+    → (0 < lost → (bytes : List ℕ) × IsReport t lost bytes × (mid ≡ false) × Appends a b (mended torn bytes))
+    → (part : List ℕ) → TakesPart mid line part after → Appends b c part
+    → (taken : List ℕ) × IsLost t lost torn line 1 taken after × Appends a c taken
+lost_after zero torn mid after t line a b c none report part takes more =
+    let n = none refl in (
+      part,
+      w.alone refl refl (subst (λ (m : Bool). TakesPart m line part after) n.0 takes),
+      subst (λ (k : Known). Appends k c part) n.1 more,
+    )
+lost_after (suc n) torn mid after t line a b c none report part takes more =
+    let r = report (omega arith) in (
+      mended torn r.0 ++ part,
+      w.reported r.0 part (omega arith) refl r.1 (subst (λ (m : Bool). TakesPart m line part after) r.2 takes) refl,
+      Appends-trans a b c (mended torn r.0) part r.3 more,
+    )
+
+-- a report that wasn't written whole, for whichever cause
+pub part_of_report : (lost : ℕ) (torn after : Bool) (t : Timestamp) (bytes : List ℕ) (a c : Known) → IsReport t lost bytes
+    → (taken : List ℕ) × TakesPart torn bytes taken after × Appends a c taken
+    → (taken : List ℕ) × TakesPartOfReport t lost torn taken after × Appends a c taken
+part_of_report lost torn after t bytes a c is part = (part.0, inr (bytes, is, part.1), part.2)
+
+pub no_report : (lost : ℕ) (torn after : Bool) (t : Timestamp) (a c : Known) → after ≡ torn → c ≡ a
+    → (taken : List ℕ) × TakesPartOfReport t lost torn taken after × Appends a c taken
+no_report lost torn after t a c same kept = ([], inl (refl, same), subst (λ (k : Known). Appends a k []) (sym kept) (Appends-nil a))

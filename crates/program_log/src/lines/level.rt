@@ -1,5 +1,5 @@
 //! The level that the environment asks for.
-ghost use Rattle.std.specs.Prelude.{◌≡◌};
+ghost use Rattle.std.specs.Prelude.{◌≡◌, Some, None, Err, IfOk};
 ghost use Rattle.program_log.specs.lines.Levels.{level_asked};
 
 use log::LevelFilter;
@@ -27,15 +27,27 @@ pub fn asked_level(value: &str) -> Option<LevelFilter>
     }
 }
 
-/// The level that the environment asks for: `off` if the variable isn't set, and none if its value names no level.
-pub fn environment_level<R: Env>(rt: &R) -> Option<LevelFilter> {
-    let mut value = [0u8; LONGEST_VALUE];
-    match rt.var(VARIABLE, &mut value) {
-        Ok(len) => match str::from_utf8(&value[..len]) {
-            Ok(text) => asked_level(text),
-            Err(_) => None,
-        },
+// Promise: The log's level is the one that `VTGATE_LOG` names, if what the environment told of it is handed on: `off` if it isn't set, and none
+// if its value is too long
+/// The level that was asked for, by what was found of the variable: `off` if it isn't set, and none if its value is too long or names no level.
+pub fn found_level(found: Result<&str, FillError>) -> Option<LevelFilter>
+    ensures set { IfOk found.entry (λ value. result ≡ level_asked value.now) }
+    ensures unset { found.entry ≡ Err FillError.NotPresent → result ≡ Some LevelFilter.Off }
+    ensures long { found.entry ≡ Err FillError.TooLong → result ≡ None }
+{
+    match found {
+        Ok(value) => asked_level(value),
         Err(FillError::NotPresent) => Some(LevelFilter::Off),
         Err(FillError::TooLong) => None,
     }
+}
+
+/// The level that the environment asks for. A value that isn't UTF-8 names none, as one that is too long.
+pub fn environment_level<R: Env>(rt: &R) -> Option<LevelFilter> {
+    let mut value = [0u8; LONGEST_VALUE];
+    let found = match rt.var(VARIABLE, &mut value) {
+        Ok(len) => str::from_utf8(&value[..len]).map_err(|_| FillError::TooLong),
+        Err(error) => Err(error),
+    };
+    found_level(found)
 }

@@ -1,7 +1,7 @@
 //! The thread that writes lines.
-ghost use Rattle.std.specs.Prelude.{◌≡◌, ◌≢◌, ◌≤◌, ◌<◌, ◌+◌, ◌-◌, ◌^◌, ◌⊎◌, ◌++◌, ◌&&◌, ℕ, List, [], true, false, length, take, min, nat_lt, IfOk};
+ghost use Rattle.std.specs.Prelude.{◌≡◌, ◌≢◌, ◌≤◌, ◌<◌, ◌++◌, ◌&&◌, ℕ, List, [], true, false, length, take, nat_lt, IfOk};
 ghost use Rattle.std.specs.Io.KnownBytes.{Appends};
-ghost use Rattle.program_log.specs.lines.Writing.{IsReport, TakesPart, mended};
+ghost use Rattle.program_log.specs.lines.Writing.{IsReport, TakesPart, TakesPartOfReport, IsLost, mended};
 
 use crate::lines::line::{LogLine, line_of};
 use crate::lines::queue::LineQueue;
@@ -113,6 +113,8 @@ impl<W: Write> LineWriter<W> {
         ensures none { lost ≡ 0 → (result ≡ true) × (self.new ≡ self.old) }
         ensures told { result ≡ true → 0 < lost → (bytes : List ℕ) × IsReport instant lost bytes
             × (self.new.is_torn ≡ false) × Appends (W.contents self.old.device) (W.contents self.new.device) (mended self.old.is_torn bytes) }
+        ensures untold { result ≡ false → (0 < lost) × (taken : List ℕ) × TakesPartOfReport instant lost self.old.is_torn taken self.new.is_torn
+            × Appends (W.contents self.old.device) (W.contents self.new.device) taken }
     {
         if lost == 0 {
             return true;
@@ -130,9 +132,10 @@ impl<W: Write> LineWriter<W> {
         ensures written { result ≡ 0 → lost ≡ 0 → Appends (W.contents self.old.device) (W.contents self.new.device) (mended self.old.is_torn line.now) }
         ensures reported { result ≡ 0 → 0 < lost → (bytes : List ℕ) × IsReport instant lost bytes
             × Appends (W.contents self.old.device) (W.contents self.new.device) (mended self.old.is_torn (bytes ++ line.now)) }
-        // If it isn't written, all are left to report, or the line alone is: then the report of the others was written.
-        ensures untold { result ≢ 0 → (result ≡ min (lost + 1) (2 ^ 64 - 1)) ⊎ ((result ≡ 1) × (bytes : List ℕ) × IsReport instant lost bytes × (more : List ℕ)
-            × Appends (W.contents self.old.device) (W.contents self.new.device) (mended self.old.is_torn (bytes ++ more))) }
+        ensures whole { result ≡ 0 → self.new.is_torn ≡ false }
+        // If it isn't written whole, nothing is written after the part of it, or of the report, that was.
+        ensures untold { result ≢ 0 → (taken : List ℕ) × IsLost instant lost self.old.is_torn line.now result taken self.new.is_torn
+            × Appends (W.contents self.old.device) (W.contents self.new.device) taken }
     {
         if !self.report(alloc, instant, lost) {
             return lost.saturating_add(1);

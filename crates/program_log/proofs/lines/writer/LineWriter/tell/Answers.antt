@@ -1,5 +1,5 @@
-use Rattle.std.proofs.Common.{refl}
-use Rattle.program_log.proofs.lines.Writings.{both, untold_after}
+use Rattle.std.proofs.Common.{refl, ap}
+use Rattle.program_log.proofs.lines.Writings.{both, lost_after}
 use Rattle.program_log.proofs.lines.writer.LineWriter.tell.Goals as goal
 
 pub returns-then-put-clause-reported : goal.returns-then-put-clause-reported
@@ -14,5 +14,8 @@ returns-then-put-clause-reported g c = λ none some.
 pub returns-else-put-clause-untold : goal.returns-else-put-clause-untold
 returns-else-put-clause-untold g c = λ some.
     let p = c.if-put.ensures.part refl in
-    untold_after c.args.lost c.args.self.now.is_torn c.args.instant (g.W.Write.contents c.args.self.now.device) (g.W.Write.contents c.report.new.self.device) (g.W.Write.contents c.put.new.self.device)
-    (λ lost. let r = c.if-not-report.ensures.told refl lost in (r.0, r.1, r.3)) p.0 p.2
+    lost_after c.args.lost c.args.self.now.is_torn c.report.new.self.is_torn c.put.new.self.is_torn c.args.instant c.args.line.now
+    (g.W.Write.contents c.args.self.now.device) (g.W.Write.contents c.report.new.self.device) (g.W.Write.contents c.put.new.self.device)
+    (λ none. let same = (c.if-not-report.ensures.none none).1 in (ap (λ w. w.is_torn) same, ap (λ w. g.W.Write.contents w.device) same))
+    (λ lost. c.if-not-report.ensures.told refl lost)
+    p.0 p.1 p.2
