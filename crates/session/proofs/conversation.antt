@@ -1,5 +1,5 @@
 pub mod ColumnLemmas
-pub mod Commands
+pub mod CommandLemmas
 pub mod RepliesLemmas
 pub mod LoginLemmas
 pub mod Conversations

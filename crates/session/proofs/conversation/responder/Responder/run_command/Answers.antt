@@ -1,7 +1,7 @@
 use Rattle.resultset.specs.declared.Outcome.TheVariants.{Count, Refused}
 use Rattle.session.specs.conversation.Means as o
 use Rattle.session.specs.conversation.Means.{Means}
-use Rattle.session.proofs.conversation.Commands.{counts_none}
+use Rattle.session.proofs.conversation.CommandLemmas.{counts_none}
 use Rattle.session.proofs.conversation.RepliesLemmas.{gives}
 use Rattle.session.proofs.conversation.responder.Responder.run_command.Goals as goal
 
