@@ -24,11 +24,13 @@ use crate::{census, events};
 use admin::{Administrator, Engine, Gate, widest_limits};
 use connection_workers::{NotRun, Readiness, Sizes, run_turns};
 use journal::{Naming, Opener};
+use libc::net as c;
 use log::Log;
 use session::Sink;
 use shard::{ShardLaw, ShardPass, World};
 use std::alloc::Global;
 use std::net::{Net, TcpListener, TcpStream};
+use std::os::fd::AsRawFd;
 use std::sync::Wait;
 use std::sync::atomic::{AtomicU64, Ordering};
 use std::thread;
@@ -37,6 +39,10 @@ use std::time::{Clock, Duration};
 
 /// How many connections wait for a worker.
 pub(crate) const QUEUED: usize = 64;
+
+/// How many connections may wait until they are accepted. std asks for 128. Of a burst of more the system drops some, whose clients then wait for their
+/// greeting for ever.
+const BACKLOG: i32 = 4096;
 
 /// What is printed once clients can connect.
 const LISTENING: &[u8] = b"listening\n";
@@ -48,6 +54,12 @@ pub struct Ports {
     pub admin: TcpListener,
 }
 
+// Has the system keep more connections that wait until they are accepted, as many as it does for any socket (net.core.somaxconn). It doesn't matter
+// whether it takes that.
+fn lengthen_backlog(listener: &TcpListener) {
+    let _ = c::listen(listener.as_raw_fd(), BACKLOG);
+}
+
 // Binds one port.
 fn bind_port<R: Log + Net<Listener = TcpListener, Stream = TcpStream>>(
     rt: &R,
@@ -57,7 +69,10 @@ fn bind_port<R: Log + Net<Listener = TcpListener, Stream = TcpStream>>(
     ensures fault { IfErr result (λ f. status_of f ≡ FAILURE) }
 {
     match TcpListener::bind(rt, address) {
-        Ok(listener) => Ok(listener),
+        Ok(listener) => {
+            lengthen_backlog(&listener);
+            Ok(listener)
+        }
         Err(reason) => {
             events::unbound(rt, port, address, &reason);
             Err(RunFault::CannotBind)
