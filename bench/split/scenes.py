@@ -48,6 +48,7 @@ How long a client waits at most, in what a split could make it wait for. It chan
 {beside} others write such rows as fast as they are answered. All of them begin just before the split: `create`, `switch` and `complete`, one right
 after the other. The time of all three is shown. Next to the longest wait stands the longest one in as much time after the split: what the
 machine itself makes a client wait. A scatter takes more than a statement by key: it is compared with its longest time alone.
+If another admin client sends `resume`, a wait is counted from then on.
 Each scene has a router of its own and {rows} rows, all of them on the shard. Of {rounds} {word} the worst is shown. The longest waits come first.
 
 | scene | statement | split, ms | longest wait after it or alone, ms | longest wait, ms |
@@ -234,6 +235,10 @@ class Clients:
         """The longest of what went on between the two times, in milliseconds."""
         return 1e3 * max((took for ended, took in self.times if ended >= begin and ended - took <= end), default=0)
 
+    def longest_since(self, begin, end):
+        """The same, of each as much as lies after the begin."""
+        return 1e3 * max((min(took, ended - begin) for ended, took in self.times if ended >= begin and ended - took <= end), default=0)
+
 
 def writers(router, name="t"):
     """The measured client, and those beside it."""
@@ -241,14 +246,16 @@ def writers(router, name="t"):
 
 
 def beside(clients, work):
-    """Does the work beside clients. Returns its milliseconds, and the longest wait after it and while it was done, in milliseconds."""
+    """Does the work beside clients. Returns its milliseconds, and the longest wait after it and while it was done, in milliseconds. The work may return
+    a time: waits are then counted from that on."""
     with clients:
         begin = time.perf_counter()
-        work()
+        since = work()
         end = time.perf_counter()
         after = min(max(end - begin, LEAST_AFTER), MOST_AFTER)
         time.sleep(after + 0.1)
-    return 1e3 * (end - begin), clients.longest(end + 0.1, end + 0.1 + after), clients.longest(begin, end + 0.01)
+    longest = clients.longest(begin, end + 0.01) if since is None else clients.longest_since(since, end + 0.01)
+    return 1e3 * (end - begin), clients.longest(end + 0.1, end + 0.1 + after), longest
 
 
 def split_of(router, source, targets):
@@ -329,7 +336,7 @@ def writes_beside_cutovers(words):
 
 
 def taken_over(words, leave):
-    """A cutover whose client leaves the port so after the freeze, and is ended by another one."""
+    """A cutover whose client leaves the port so after the freeze, and is ended by another one. Waits count from when that one asks for it."""
     with Router(words.program, {"t": table("id", "d")}) as router:
         router.fill("t", words.rows, apart=2)
 
@@ -340,6 +347,7 @@ def taken_over(words, leave):
             first.does("advance")
             leave(first)
             second.socket.settimeout(PATIENCE)
+            since = time.perf_counter()
             try:
                 second.does("resume")
             except TimeoutError:
@@ -347,6 +355,7 @@ def taken_over(words, leave):
                 first.socket.close()
                 second.socket.settimeout(None)
                 second.answers("status")
+            return since
 
         return beside(Clients((write, router.port, "t", 0, BETWEEN)), cut_over)
 

@@ -20,21 +20,17 @@ use std::sync::{Mutex, Wait};
 use std::thread;
 use std::time::{Clock, Duration};
 
-/// How long it sleeps between two looks for a client, and how long a read or a write waits between two looks whether all is served, in
-/// milliseconds.
+/// How long it sleeps between two looks for a client, in milliseconds.
 const BETWEEN_LOOKS: u64 = 20;
 
-const BETWEEN_TRIES: u64 = 100;
+/// How long a read or a write waits between two looks whether all is served, in milliseconds.
+const BETWEEN_TRIES: u64 = 20;
 
 /// How many such reads in turn may give nothing: ten minutes.
-const SILENT_READS: u32 = 6000;
+const SILENT_READS: u32 = 30_000;
 
 /// How many such writes of an answer may move nothing: a minute.
-const STUCK_WRITES: u32 = 600;
-
-/// After how many reads or writes in turn that moved nothing a client gives way to the next one, if statements wait for a cutover: two seconds.
-/// They may wait until another client ends the cutover, which can't be served before this one has left.
-const HELD_TRIES: u32 = 20;
+const STUCK_WRITES: u32 = 3000;
 
 /// The word of the line that takes all steps of a cutover.
 const SWITCH: &[u8] = b"switch";
@@ -51,15 +47,6 @@ struct Port<'s, R> {
 }
 
 impl<R: Wait> Port<'_, R> {
-    // How many tries in turn have moved nothing while statements waited, with one more.
-    fn held_after(&self, held: u32) -> u32 {
-        if self.buffer.waiting(self.rt) > 0 {
-            held.saturating_add(1)
-        } else {
-            0
-        }
-    }
-
     // Whether another client is there. It is accepted, and is served next.
     fn has_next(&self) -> bool {
         match self.listener.accept() {
@@ -71,9 +58,10 @@ impl<R: Wait> Port<'_, R> {
         }
     }
 
-    // Whether a client has to leave after so many tries: all is served, or statements have waited too long and another client is there.
-    fn ends(&self, held: u32) -> bool {
-        !self.progress.is_under_way() || (held >= HELD_TRIES && self.has_next())
+    // Whether a client that moves nothing leaves: statements wait for a cutover, and another client is there, which may end it, and can't be
+    // served before this one has left.
+    fn gives_way(&self) -> bool {
+        self.buffer.waiting(self.rt) > 0 && self.has_next()
     }
 
     // The next client, if one is there.
@@ -105,20 +93,18 @@ fn read_until<R: Wait>(
 ) -> Result<usize, DeviceFailed>
     ensures { ReadsAtMost result buffer.new }
 {
-    let mut held = 0;
     for _ in 0..SILENT_READS {
-        if port.ends(held) {
+        if !port.progress.is_under_way() {
             return Err(DeviceFailed);
         }
         match stream.read(buffer) {
             Ok(n) => return Ok(n),
             Err(error) => {
-                if !is_made_again(error.kind()) {
+                if !is_made_again(error.kind()) || port.gives_way() {
                     return Err(DeviceFailed);
                 }
             }
         }
-        held = port.held_after(held);
     }
     Err(DeviceFailed)
 }
@@ -162,19 +148,17 @@ fn write_some<R: Wait>(
 ) -> Result<usize, DeviceFailed>
     ensures { IfOk result (λ n. n ≤ length bytes.now) }
 {
-    let mut held = 0;
     for _ in 0..STUCK_WRITES {
         match stream.write(bytes) {
             Ok(0) => return Err(DeviceFailed),
             Ok(n) => return Ok(n),
             Err(error) => {
-                if !is_made_again(error.kind()) {
+                if !is_made_again(error.kind()) || port.gives_way() {
                     return Err(DeviceFailed);
                 }
             }
         }
-        held = port.held_after(held);
-        if port.ends(held) {
+        if !port.progress.is_under_way() {
             return Err(DeviceFailed);
         }
     }
