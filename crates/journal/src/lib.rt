@@ -17,6 +17,7 @@
 
 mod law;
 mod laws;
+mod looking;
 mod opened;
 mod opener;
 mod pass;
@@ -26,6 +27,7 @@ mod words;
 
 pub use law::{Law, Naming};
 pub use laws::{later_than_later, runs_agree};
+pub use looking::LookingPass;
 pub use opened::{Opened, SLOTS};
 pub use opener::{MOST_SESSIONS, Opener};
 pub use pass::{MOST_STATEMENTS, Pass};

@@ -4,6 +4,7 @@ ghost use Rattle.std.specs.List.{filter};
 ghost use Rattle.vt_value.specs.declared.refusal.Refusal.TheVariants.{OutOfMemory, ShardFull};
 
 use crate::law::{Law, Naming};
+use crate::looking::LookingPass;
 use crate::pass::Pass;
 use crate::words::{Knower, Words};
 use std::marker::Model;
@@ -86,5 +87,16 @@ impl<L: Law, J: Naming> Opener<L, J> {
             number: Some(number),
             statements: 0,
         })
+    }
+    /// That by a pass that may only look, for who opens sessions and appends nothing itself.
+    pub fn open_after(&mut self, pass: &mut LookingPass<L, J>) -> Result<Pass<L, J>, Refusal>
+        ensures parent { pass.new ≡ pass.old }
+        ensures new { IfOk result (λ p. p ≡ new_pass pass.old.seen (Some self.old)) }
+        ensures next { IfOk result (λ _. (self.old < 2 ^ 62) × (self.new ≡ self.old + 1)) }
+        ensures fresh { IfOk result (λ p. filter (by_session L.commit_of self.old) p.seen ≡ []) }
+        ensures unchanged { IfErr result (λ _. self.new ≡ self.old) }
+        ensures refused { IfErr result (λ e. ((e ≡ ShardFull) × (2 ^ 62 ≤ self.old)) ⊎ ((e ≡ OutOfMemory) × (self.old < 2 ^ 62))) }
+    {
+        self.open(&mut pass.pass)
     }
 }

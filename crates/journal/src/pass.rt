@@ -3,6 +3,7 @@ ghost use Rattle.std.specs.Prelude.{ℕ, Some, ◌≡◌, ◌≢◌, ◌⊎◌, 
 ghost use Rattle.vt_value.specs.declared.refusal.Refusal.TheVariants.{ShardFull};
 
 use crate::law::{Law, Naming};
+use crate::looking::LookingPass;
 use crate::words::{Knower, Words};
 use std::alloc::AllocError;
 use std::marker::Model;
@@ -81,19 +82,21 @@ impl<L: Law, J: Naming> Pass<L, J> {
     // Promise: A pass that is split off has seen as much and has no number; passes that met have seen the longer of what they had seen; a
     // pass that joined another has its looks too; no two passes have one session number
     // With: Pass::{meet, join}
-    /// A pass without a session number or looks, which has seen as much: a worker's, to be joined back. It refuses
-    /// only if there are too many handles.
-    pub fn split(&mut self) -> Result<Pass<L, J>, AllocError>
+    /// A pass without a session number or looks, which has seen as much and may only look: a worker's, to be joined
+    /// back. It refuses only if there are too many handles.
+    pub fn split(&mut self) -> Result<LookingPass<L, J>, AllocError>
         ensures same { self.new ≡ self.old }
         ensures new { IfOk result (λ p. p ≡ new_pass self.old.seen None) }
     {
         let words = Arc::try_clone(&self.words)?;
         let seat = words.note(&mut self.seat);
-        Ok(Pass {
-            words,
-            seat,
-            number: None,
-            statements: 0,
+        Ok(LookingPass {
+            pass: Pass {
+                words,
+                seat,
+                number: None,
+                statements: 0,
+            },
         })
     }
 
@@ -119,8 +122,8 @@ impl<L: Law, J: Naming> Pass<L, J> {
         self.words.compare(&mut self.seat, &mut other.seat);
     }
 
-    /// It has then seen the longer of what both had seen, and has the looks of both, its own first.
-    pub fn join(&mut self, other: Pass<L, J>)
+    // It has then seen the longer of what both had seen, and has the looks of both, its own first.
+    fn take_in(&mut self, other: Pass<L, J>)
         ensures seen { IsLonger L.slot_of L.commit_of L.may_follow self.old other self.new.seen }
         ensures mine { self.new ≡ record self.old { seen = self.new.seen; looks = self.old.looks ++ other.looks } }
         ensures apart { (n : ℕ) → self.old.session ≡ Some n → other.session ≢ Some n }
@@ -133,5 +136,15 @@ impl<L: Law, J: Naming> Pass<L, J> {
         } = other;
         self.words.meet(&mut self.seat, &mut seat);
         self.words.absorb(&mut self.seat, seat);
+    }
+
+    /// It has then seen the longer of what both had seen, and has the looks of both, its own first.
+    pub fn join(&mut self, other: LookingPass<L, J>)
+        ensures seen { IsLonger L.slot_of L.commit_of L.may_follow self.old other self.new.seen }
+        ensures mine { self.new ≡ record self.old { seen = self.new.seen; looks = self.old.looks ++ other.looks } }
+        ensures apart { (n : ℕ) → self.old.session ≡ Some n → other.session ≢ Some n }
+    {
+        let LookingPass { pass } = other;
+        self.take_in(pass);
     }
 }

@@ -3,6 +3,7 @@ ghost use Rattle.std.specs.Prelude.{◌≡◌, ◌<◌, ◌≤◌, ◌^◌, ◌+
 ghost use Rattle.std.specs.List.{filter};
 
 use crate::law::{Law, Naming};
+use crate::looking::LookingPass;
 use crate::pass::Pass;
 use crate::words::{Knower, Words};
 use std::marker::Model;
@@ -55,6 +56,16 @@ impl<L: Law, J: Naming> ShardSeat<L, J> {
         ensures pass { pass.new ≡ record pass.old { seen = self.new.seen; looks = pass.old.looks ++ (self.old.slot, length self.new.seen) ∷ [] } }
     {
         self.words.look(&mut self.seat, &mut pass.seat, self.slot)
+    }
+
+    /// That by a pass that may only look.
+    pub fn look_for(&mut self, pass: &mut LookingPass<L, J>) -> u64
+        ensures seen { IsLater L.slot_of L.commit_of L.may_follow self.old pass.old self.new.seen }
+        ensures count { result ≡ length (filter (on_slot L.slot_of self.old.slot) self.new.seen) }
+        ensures seat { self.new ≡ record self.old { seen = self.new.seen } }
+        ensures pass { pass.new ≡ record pass.old { seen = self.new.seen; looks = pass.old.looks ++ (self.old.slot, length self.new.seen) ∷ [] } }
+    {
+        self.look(&mut pass.pass)
     }
 
     // Promise: An append adds exactly its entry, after any such run, if the entry is lawful

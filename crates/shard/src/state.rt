@@ -2,7 +2,6 @@
 //! that the run leaves on the shard.
 ghost use Rattle.std.specs.Prelude.{◌≡◌, ◌↔◌, IsTrue, ◌⊎◌, ◌+◌, ◌<◌, ◌≤◌, ◌^◌, ◌++◌, ◌∷◌, [], ℕ, true, false, List, Some, IsSome, IfOk, IfErr, MatchOption, None, OnOk, OnErr, Contains, length, vec_len};
 ghost use Rattle.vschema.specs.TypedWrites.{IsTypedWrite};
-ghost use Rattle.shard_contents.specs.Queries.{Allowed};
 ghost use Rattle.journal.specs.Views.{IsLater};
 ghost use Rattle.shard_run.specs.declared.Entry.{Entry};
 ghost use Rattle.shard_run.specs.declared.Event.{Event};
@@ -13,22 +12,19 @@ ghost use Rattle.journal.specs.Runs.{IsLegal};
 ghost use Rattle.shard_contents.specs.Entries.{MayFollow, slot_of, commit_of};
 ghost use Rattle.shard_contents.specs.Shards.{beyond, IsAfter};
 ghost use Rattle.shard_contents.specs.inner.Shards.{is_plain};
-ghost use Rattle.shard.specs.Snapshots.{IsSnapshotAt};
-ghost use Rattle.shard.specs.BegunReads.{HasBegunRead};
 
-use crate::snapshot::{BegunRead, MOST_ROWS_UNDER_LOCK, Snapshot};
-use crate::world::{ShardLaw, ShardPass, World};
+use crate::world::{LookingShardPass, ShardLaw, ShardPass, World};
 use journal::{Naming, ShardSeat};
 use shard_contents::{
-    CommitOutcome, Contents, Limits, ReadOutcome, Reading, SortedTables, StatementId,
-    StoredEntries, StoredTables, TargetStep,
+    CommitOutcome, Contents, Limits, SortedTables, StatementId, StoredEntries, StoredTables,
+    TargetStep,
 };
 use shard_run::{Entry, Event, Follow, Mode, ShardRecord};
-use std::alloc::{AllocError, Global};
+use std::alloc::Global;
 use std::marker::Model;
 use std::mem::replace;
-use vschema::{Place, Query, VSchema, Write};
-use vt_value::{Items, Refusal, Row};
+use vschema::{Place, VSchema, Write};
+use vt_value::{Items, Refusal};
 
 /// What lies under a shard's lock: its rows, its mode and the entries that it stores, with the seat whose run says so.
 /// Contracts see a `ShardView`: which shard it is, the run that its seat has seen, from which stored entry on it has what they change, and of how
@@ -62,12 +58,6 @@ impl<W: World, J: Naming> Model for ShardState<W, J> {
     // What it holds is what the run that it has seen leaves on it, and the tables in order had their rows when they say.
     ghost invariant = { λ s. IsAfter W.opening W.limits s.seat s.contents × RetiredFor W.opening s.seat.seen s.contents.shard s.targets
         × AllHadRows s.contents.stored.log s.contents.store.rows s.sorted };
-}
-
-fn serves(mode: Mode) -> bool
-    ensures { result ≡ answers_queries mode }
-{
-    matches!(mode, Mode::Serving | Mode::Frozen)
 }
 
 // Appends the shard's entry of an event that isn't stored, after which it has this mode, and gives the event back. Takes no memory.
@@ -123,7 +113,7 @@ impl<W: World, J: Naming> ShardState<W, J> {
     ghost use Rattle.shard_contents.specs.Legal.{IsOnItsSlot, MayRetire, MayServe};
     ghost use Rattle.journal.specs.Views.{PassView};
     ghost use Rattle.shard_contents.specs.Entries.{HasLooked, HasAppended, opening_shards, seat_view};
-    ghost use Rattle.shard_contents.specs.Shards.{AnswersQuery, IsNext};
+    ghost use Rattle.shard_contents.specs.Shards.{IsNext};
     ghost use Rattle.shard_contents.specs.Commits.{IsPlaced, HasCommitted, IsCommitRefusal, HasAnswered};
     ghost use Rattle.shard_contents.specs.Copying.{PassesLimit};
     ghost use Rattle.shard_contents.specs.Law.{SourcesApart};
@@ -278,95 +268,17 @@ impl<W: World, J: Naming> ShardState<W, J> {
         self.seat.look(pass)
     }
 
-    // What the query gives over the rows of a shard that serves.
-    fn read_serving(
-        &mut self,
-        alloc: Global,
-        pass: &mut ShardPass<W, J>,
-        query: &Query,
-    ) -> Result<Reading, AllocError>
-        requires serves { answers_queries (mode W.opening self.old.seen self.old.shard.slot) ≡ true }
+    /// That by a pass that may only look.
+    pub fn look_for(&mut self, pass: &mut LookingShardPass<W, J>) -> u64
         ensures seen { IsLater slot_of commit_of (MayFollow W.opening) (seat_view self.old) pass.old self.new.seen }
-        ensures rows { IfOk result (λ r. Allowed query.now (shard_rows W.opening self.new.seen self.old.shard) r.rows) }
-        ensures entries { IfOk result (λ r. r.entries ≡ length (entries_on self.old.shard.slot self.new.seen)) }
-        ensures serves { answers_queries (mode W.opening self.new.seen self.old.shard.slot) ≡ true }
-        ensures few { row_count (shard_rows W.opening self.new.seen self.old.shard) ≤ 2 ^ 20 }
+        ensures count { result ≡ length (entries_on self.old.shard.slot self.new.seen) }
         ensures shard { self.new.shard ≡ self.old.shard }
         ensures same { self.new ≡ record self.old { seen = self.new.seen } }
         ensures stands { IsOnItsSlot W.opening self.new.seen self.old.shard }
+        ensures mode { mode W.opening self.new.seen self.old.shard.slot ≡ mode W.opening self.old.seen self.old.shard.slot }
         ensures pass { pass.new ≡ record pass.old { seen = self.new.seen; looks = pass.old.looks ++ (self.old.shard.slot, length self.new.seen) ∷ [] } }
     {
-        let entries = self.seat.look(pass);
-        let rows = self.contents.store.select(alloc, query)?;
-        Ok(Reading { rows, entries })
-    }
-
-    // The rows of a shard that serves, as they are at a look.
-    fn snapshot(
-        &mut self,
-        alloc: Global,
-        pass: &mut ShardPass<W, J>,
-    ) -> Result<Snapshot, AllocError>
-        requires serves { answers_queries (mode W.opening self.old.seen self.old.shard.slot) ≡ true }
-        ensures seen { IsLater slot_of commit_of (MayFollow W.opening) (seat_view self.old) pass.old self.new.seen }
-        ensures snapshot { IfOk result (IsSnapshotAt W.opening self.new.seen self.old.shard) }
-        ensures shard { self.new.shard ≡ self.old.shard }
-        ensures same { self.new ≡ record self.old { seen = self.new.seen } }
-        ensures stands { IsOnItsSlot W.opening self.new.seen self.old.shard }
-        ensures pass { pass.new ≡ record pass.old { seen = self.new.seen; looks = pass.old.looks ++ (self.old.shard.slot, length self.new.seen) ∷ [] } }
-    {
-        let entries = self.seat.look(pass);
-        let store = self.contents.store.snapshot(alloc)?;
-        Ok(Snapshot { store, entries })
-    }
-
-    // The look of a read, with all that has to be done under the shard's lock.
-    pub(crate) fn begin_read(
-        &mut self,
-        alloc: Global,
-        pass: &mut ShardPass<W, J>,
-        query: &Query,
-    ) -> Result<BegunRead, AllocError>
-        ensures seen { IsLater slot_of commit_of (MayFollow W.opening) (seat_view self.old) pass.old self.new.seen }
-        ensures begun { IfOk result (HasBegunRead W.opening self.new.seen self.old.shard query.now) }
-        ensures shard { self.new.shard ≡ self.old.shard }
-        ensures same { self.new ≡ record self.old { seen = self.new.seen } }
-        ensures stands { IsOnItsSlot W.opening self.new.seen self.old.shard }
-        ensures pass { pass.new ≡ record pass.old { seen = self.new.seen; looks = pass.old.looks ++ (self.old.shard.slot, length self.new.seen) ∷ [] } }
-    {
-        if !serves(self.contents.mode) {
-            let _ = self.look(pass);
-            return Ok(BegunRead::Answered(ReadOutcome::NotServing));
-        }
-        if self.contents.store.scans(query, MOST_ROWS_UNDER_LOCK) {
-            let snapshot = self.snapshot(alloc, pass)?;
-            return Ok(BegunRead::Begun(snapshot));
-        }
-        let reading = self.read_serving(alloc, pass, query)?;
-        Ok(BegunRead::Answered(ReadOutcome::Rows(reading)))
-    }
-
-    // Promise: A read makes one look, which the pass keeps; its answer is one of the query's over what the run leaves on the shard at that
-    // look, if it serves and has at most 2^20 rows, with the number of the shard's entries then; else it says that the shard doesn't
-    // serve
-    /// What the query gives over the rows that the run, as it is, leaves on the shard, if it serves: one look, which the pass keeps.
-    /// Refuses only for want of memory; then too the look was made.
-    pub fn read(
-        &mut self,
-        alloc: Global,
-        pass: &mut ShardPass<W, J>,
-        query: &Query,
-    ) -> Result<ReadOutcome, AllocError>
-        ensures seen { IsLater slot_of commit_of (MayFollow W.opening) (seat_view self.old) pass.old self.new.seen }
-        ensures read { IfOk result (AnswersQuery W.opening self.new.seen self.old.shard query.now) }
-        ensures shard { self.new.shard ≡ self.old.shard }
-        ensures same { self.new ≡ record self.old { seen = self.new.seen } }
-        ensures stands { IsOnItsSlot W.opening self.new.seen self.old.shard }
-        ensures pass { pass.new ≡ record pass.old { seen = self.new.seen; looks = pass.old.looks ++ (self.old.shard.slot, length self.new.seen) ∷ [] } }
-    {
-        let begun = self.begin_read(alloc, pass, query)?;
-        let outcome = begun.finish(alloc, query)?;
-        Ok(outcome)
+        self.seat.look_for(pass)
     }
 
     // Commits the write on a shard that takes it.

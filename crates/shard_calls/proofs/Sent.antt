@@ -7,8 +7,10 @@ use Rattle.std.proofs.Common.{ℕ, List}
 use Rattle.std.proofs.Crossing as std
 use Rattle.journal.specs.declared.law.Naming as naming
 use Rattle.journal.specs.contracts.pass.Pass as pass
+use Rattle.journal.specs.contracts.looking.LookingPass as looking
 use Rattle.journal.specs.contracts.seat.ShardSeat as seat
 use Rattle.journal.proofs.pass.Pass.TheSendSync as sent_pass
+use Rattle.journal.proofs.looking.LookingPass.TheSendSync as sent_looking
 use Rattle.journal.proofs.seat.ShardSeat.TheSendSync as sent_seat
 use Rattle.shard.specs.declared.world.World as world
 use Rattle.shard.specs.Contents as contents
@@ -62,6 +64,9 @@ module _ (W J : RattleType) (w : world.Ghosts W.Denot) (j : naming.Ghosts J.Deno
   pub pass_send : IsSend (pass.the_row (law.the_row W) J entry.the_row j (laws.ghosts W w laws.no_dict))
   pass_send = sent_pass.the_send (law.the_row W) J entry.the_row j (laws.ghosts W w laws.no_dict) entry_send
 
+  pub looking_send : IsSend (looking.the_row (law.the_row W) J entry.the_row (laws.ghosts W w laws.no_dict) j)
+  looking_send = sent_looking.the_send (law.the_row W) J entry.the_row (laws.ghosts W w laws.no_dict) j entry_send
+
   seat_send : IsSend (seat.the_row (law.the_row W) J entry.the_row j (laws.ghosts W w laws.no_dict))
   seat_send = sent_seat.the_send (law.the_row W) J entry.the_row j (laws.ghosts W w laws.no_dict) entry_send
 
@@ -80,9 +85,9 @@ module _ (W J : RattleType) (w : world.Ghosts W.Denot) (j : naming.Ghosts J.Deno
   pub looked_send : (ℓ : _) → IsSend (looked.the_row ℓ W J w j)
   looked_send ℓ =
       recorded_send (looked.the_field ℓ W J w j).row _ _ (looked.the_type ℓ W J w j).to_one
-      (struct_send (shape (looked.the_type ℓ W J w j)) (search sendable, (search sendable, (piece_send ℓ, (search sendable, (pass_send, (search (begun.the_send, refused.the_send, std.crosses, sendable), tt)))))))
+      (struct_send (shape (looked.the_type ℓ W J w j)) (search sendable, (search sendable, (piece_send ℓ, (search sendable, (looking_send, (search (begun.the_send, refused.the_send, std.crosses, sendable), tt)))))))
 
   pub done_send : IsSend (done.the_row W J w j)
   done_send =
       recorded_send (done.the_field W J w j).row _ _ (done.the_type W J w j).to_one
-      (struct_send (shape (done.the_type W J w j)) (search sendable, (pass_send, (search (reading.the_send, refused.the_send, std.crosses, sendable), tt))))
+      (struct_send (shape (done.the_type W J w j)) (search sendable, (looking_send, (search (reading.the_send, refused.the_send, std.crosses, sendable), tt))))

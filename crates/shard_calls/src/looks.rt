@@ -13,7 +13,7 @@ use crate::pieces::Piece;
 use crate::scatter::{ReadJob, ReadResult};
 use journal::Naming;
 use serving::Seated;
-use shard::{BegunRead, ReadOutcome, ShardPass, World};
+use shard::{BegunRead, LookingShardPass, ReadOutcome, World};
 use std::alloc::{AllocError, Global};
 use std::sync::Wait;
 use vschema::Query;
@@ -26,7 +26,7 @@ pub struct LookedJob<'e, W: World, J: Naming> {
     pub slot: usize,
     pub query: Piece<'e>,
     pub most: usize,
-    pub pass: ShardPass<W, J>,
+    pub pass: LookingShardPass<W, J>,
     pub begun: Result<BegunRead, AllocError>,
 }
 
@@ -46,7 +46,7 @@ fn look_at<'e, W: World, J: Naming>(
         mut pass,
     } = job;
     let slot = shard.slot();
-    let begun = shard.begin_read(rt, alloc, &mut pass, query.get());
+    let begun = shard.begin_read_for(rt, alloc, &mut pass, query.get());
     LookedJob {
         turn,
         slot,

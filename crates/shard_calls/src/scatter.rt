@@ -19,7 +19,10 @@ use crate::reply::ShardRead;
 use journal::Naming;
 use planner::{Operator, Plan, Rows, single_id, takes_by};
 use serving::{Seated, ShardReference};
-use shard::{Fixed, ReadOutcome, Reading, Shard, ShardPass, World, fixed_values, rows_by_limit};
+use shard::{
+    Fixed, LookingShardPass, ReadOutcome, Reading, Shard, ShardPass, World, fixed_values,
+    rows_by_limit,
+};
 use sql_tree::Condition;
 use std::alloc::{AllocError, Global};
 use std::sync::Wait;
@@ -28,21 +31,21 @@ use vschema::{Query, Table};
 use vt_value::{Items, Row};
 
 /// What a shard is asked: its number among those that a query needs, itself, its piece of the query, how many rows that reads at most as far
-/// as it tells by itself, and a pass.
+/// as it tells by itself, and a pass, by which it is looked at and nothing is appended.
 #[derive(Drop)]
 pub struct ReadJob<'e, W: World, J: Naming> {
     pub turn: usize,
     pub shard: &'e Shard<W, J>,
     pub query: Piece<'e>,
     pub most: usize,
-    pub pass: ShardPass<W, J>,
+    pub pass: LookingShardPass<W, J>,
 }
 
 /// What a shard gave, with the pass by which it was read.
 #[derive(Drop)]
 pub struct ReadResult<W: World, J: Naming> {
     pub slot: usize,
-    pub pass: ShardPass<W, J>,
+    pub pass: LookingShardPass<W, J>,
     pub outcome: Result<ReadOutcome, AllocError>,
 }
 

@@ -6,6 +6,8 @@ use denote.Struct.Field.{shr_ref_field}
 use denote.Struct.Tuple.{TupleAt, field_at, type_at}
 use Rattle.std.proofs.Common.{ℕ, List, [], ◌∷◌}
 use Rattle.journal.specs.declared.law.Naming as naming
+use Rattle.journal.specs.contracts.looking.LookingPass as looking
+use Rattle.journal.proofs.looking.LookingPass.TheSendSync as sent_looking
 use Rattle.journal.specs.contracts.opener.Opener as opener_row
 use Rattle.log.specs.declared.logger.Log as log
 use Rattle.std.specs.declared.time.Clock as clock
@@ -50,11 +52,14 @@ module _ (W J : RattleType) (w : world.Ghosts W.Denot) (j : naming.Ghosts J.Deno
   opener_send : IsSend (opener_row.the_row (law.the_row W) J entry.the_row j (laws.ghosts W w laws.no_dict))
   opener_send = opener.the_send (law.the_row W) J entry.the_row j (laws.ghosts W w laws.no_dict) entry_send
 
+  looking_send : IsSend (looking.the_row (law.the_row W) J entry.the_row (laws.ghosts W w laws.no_dict) j)
+  looking_send = sent_looking.the_send (law.the_row W) J entry.the_row (laws.ghosts W w laws.no_dict) j entry_send
+
   -- an acceptor whose progress may be shared
   pub acceptor_send : (ℓ : _) → IsSend (acceptor.the_row ℓ W J j w)
   acceptor_send ℓ =
       recorded_send (acceptor.the_field ℓ W J j w).row _ _ (acceptor.the_type ℓ W J j w).to_one
-      (struct_send (shape (acceptor.the_type ℓ W J j w)) (shr_send _ _ _ listener.the_sync, (opener_send, (pass_send W J w j, (shr_send _ _ _ progress.the_sync, search (instant.the_send, std.crosses, sendable))))))
+      (struct_send (shape (acceptor.the_type ℓ W J j w)) (shr_send _ _ _ listener.the_sync, (opener_send, (looking_send, (shr_send _ _ _ progress.the_sync, search (instant.the_send, std.crosses, sendable))))))
 
 module _ (R : RattleType) (shared : IsSync R) where
   client_send : (ℓ : _) → IsSend (client.the_row ℓ R)

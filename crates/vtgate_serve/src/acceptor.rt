@@ -10,7 +10,7 @@ use crate::progress::ServeProgress;
 use connection_workers::ConnectionSource;
 use journal::{Naming, Opener};
 use log::Log;
-use shard::{ShardLaw, ShardPass, World};
+use shard::{LookingShardPass, ShardLaw, World};
 use std::io::Write;
 use std::net::{Shutdown, SocketAddr, TcpListener, TcpStream};
 use std::sync::Wait;
@@ -25,7 +25,7 @@ const AFTER_FAILURE: u64 = 20;
 pub struct Acceptor<'l, W: World, J: Naming> {
     listener: &'l TcpListener,
     opener: Opener<ShardLaw<W>, J>,
-    pass: ShardPass<W, J>,
+    pass: LookingShardPass<W, J>,
     progress: &'l ServeProgress,
     accepted: u32,
     last: u32,
@@ -41,7 +41,7 @@ impl<'l, W: World, J: Naming> Acceptor<'l, W, J> {
         listener: &'l TcpListener,
         progress: &'l ServeProgress,
         opener: Opener<ShardLaw<W>, J>,
-        pass: ShardPass<W, J>,
+        pass: LookingShardPass<W, J>,
         last: u32,
     ) -> Acceptor<'l, W, J>
         requires unopened { opener ≡ 0 }
@@ -102,7 +102,7 @@ impl<'l, W: World, J: Naming> Acceptor<'l, W, J> {
         ensures number { IfSome result (λ c. c.number ≡ self.new.accepted) }
     {
         self.accepted = self.accepted.saturating_add(1);
-        let pass = self.opener.open(&mut self.pass).ok()?;
+        let pass = self.opener.open_after(&mut self.pass).ok()?;
         Some(Connection::new(self.accepted, stream, peer, pass))
     }
 }

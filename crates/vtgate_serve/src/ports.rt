@@ -381,13 +381,13 @@ pub fn serve_router<
         opener,
         mut pass,
     } = beginning;
-    let Ok(mut controller) = pass.split() else {
+    let Ok(listening) = pass.split() else {
         return Err(RunFault::Failed);
     };
     begin_serving(rt, asked, engine, output)?;
     let progress = ServeProgress::new();
     let last = last_connection(asked);
-    let acceptor = Acceptor::new(&config.ports.clients, &progress, opener, pass, last);
+    let acceptor = Acceptor::new(&config.ports.clients, &progress, opener, listening, last);
     let server = Server {
         rt,
         alloc,
@@ -399,7 +399,7 @@ pub fn serve_router<
         &server,
         acceptor,
         &mut administrator,
-        &mut controller,
+        &mut pass,
         &config.ports.admin,
     )
 }

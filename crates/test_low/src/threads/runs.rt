@@ -110,7 +110,7 @@ fn work_in_four<J: Naming + Send + Sync, R: Threads + Wait + Sync>(
         move || work_in_two(rt, seats, three, four, rounds),
     );
     let mut left = left?;
-    left.join(right?);
+    left.meet(&mut right?);
     Ok(left)
 }
 
@@ -192,7 +192,7 @@ fn session_of<J: Naming>(pass: &Pass<Rising, J>) -> u64 {
     pass.session().unwrap_or(99)
 }
 
-// The sessions of passes, one of them split off.
+// The sessions of passes, of which one lends what it has seen to a pass that may only look.
 fn tell_sessions<J: Naming>(
     answers: &mut Vec<u64>,
     first: &Pass<Rising, J>,
@@ -200,13 +200,8 @@ fn tell_sessions<J: Naming>(
     two: &mut Pass<Rising, J>,
 ) -> Result<(), Refusal> {
     let worker = one.split()?;
-    let sessions = [
-        session_of(first),
-        session_of(one),
-        session_of(two),
-        session_of(&worker),
-    ];
-    drop(worker);
+    one.join(worker);
+    let sessions = [session_of(first), session_of(one), session_of(two)];
     Ok(answers.extend_from_slice(&sessions)?)
 }
 
@@ -264,7 +259,7 @@ fn tell_all<J: Naming>(
     let sizes = answers.extend_from_slice(&[seats.len() as u64, opener.next()]);
     let told = tell_both(answers, seats, first, &mut one, &mut two);
     one.meet(&mut two);
-    first.join(two);
+    first.meet(&mut two);
     sizes?;
     told
 }
@@ -285,6 +280,6 @@ pub(crate) fn calls_answer(alloc: Global) -> Result<bool, Refusal> {
     let opened = Opened::<Rising>::new(alloc)?;
     let answers = answers::<Brand>(alloc, opened)?;
     // seats; next session; sessions; statements; slot and count of two; the fifth statement
-    let wanted = [64, 2, 99, 0, 1, 99, 1, 2, 1, 0, 1, 1, 1, 5];
+    let wanted = [64, 2, 99, 0, 1, 1, 2, 1, 0, 1, 1, 1, 5];
     Ok(answers.as_slice() == wanted.as_slice())
 }

@@ -1,6 +1,6 @@
 use Rattle.std.proofs.Common.{ap}
 use Rattle.journal.proofs.Public.{is_longer, seen_pass, absorbed_pass}
-use Rattle.journal.proofs.pass.Pass.join.Goals as goal
+use Rattle.journal.proofs.pass.Pass.take_in.Goals as goal
 
 pub returns-clause-seen : goal.returns-clause-seen
 returns-clause-seen g c =
