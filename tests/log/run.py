@@ -241,6 +241,18 @@ def a_split(program):
 
 
 @case
+def a_freeze(program):
+    """A source freezes before its targets have copied it, which is told, and one once they are level."""
+    server = Served(program, "info", shards="-80,80-")
+    answers = server.admin("create -80 -40,40-80", "advance", "cancel", "create -80 -40,40-80", *["step"] * 20, "advance")
+    time.sleep(0.2)
+    server.process.terminate()
+    lines = told(server.end()[0])
+    check("all come level", answers[-2:], ["ok level", "ok freeze"])
+    check("what was left", of(lines, "warn not_level"), [{"copying": "2", "entries": "0"}])
+
+
+@case
 def a_cutover(program):
     """The times of a cutover while sessions write, in order, and the statements that waited for it."""
     server = Served(program, "info", workers=4, shards="-")

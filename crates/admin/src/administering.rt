@@ -7,7 +7,7 @@ ghost use Rattle.admin.specs.AdminAnswers.{IsAdminReply, keyspace_of};
 use crate::administrator::Administrator;
 use crate::reply::AdminReply;
 use journal::Naming;
-use reshard::WorkflowContext;
+use reshard::{WorkLeft, WorkflowContext};
 use route_engine::{Engine, Gate, ShardPass, World};
 use shard_run::opening::sharded_keyspace;
 use std::alloc::Global;
@@ -45,4 +45,13 @@ pub fn administer<W: World + Send + Sync, J: Naming + Send + Sync, G: Gate>(
     ensures onward { IsOnward W.opening pass.old pass.new }
 {
     administrator.answer(rt, alloc, pass, workflow_context(engine), words)
+}
+
+/// What is left before the targets of the sharded keyspace's workflow are level with their sources: nothing if there is none. Takes no memory.
+pub fn work_left<W: World + Send + Sync, J: Naming + Send + Sync, G: Gate>(
+    rt: &impl Wait,
+    engine: &Engine<W, J, G>,
+    administrator: &Administrator<W, J>,
+) -> WorkLeft {
+    administrator.work_left(rt, engine.schema())
 }

@@ -10,12 +10,13 @@ use crate::calls::{advance, cancel, complete, create, resume, step, switch};
 use crate::reply::AdminReply;
 use crate::status::{empty_status, status};
 use journal::Naming;
-use reshard::{Replacement, ReshardFault, Workflow, WorkflowContext};
+use reshard::{Replacement, ReshardFault, WorkLeft, Workflow, WorkflowContext};
 use route_engine::{ShardPass, World};
 use std::alloc::Global;
 use std::marker::Model;
 use std::sync::Wait;
 use vt_value::Refusal;
+use vschema::VSchema;
 use vtgate_lines::{AdminLine, read_admin_line};
 
 fn refused(fault: ReshardFault) -> AdminReply
@@ -129,6 +130,19 @@ impl<W: World, J: Naming> Administrator<W, J> {
     {
         let Administrator { workflow } = self;
         workflow
+    }
+
+    /// What is left before the targets of its workflow are level with their sources: nothing if it has none. Takes no memory.
+    pub fn work_left(&self, rt: &impl Wait, schema: &VSchema) -> WorkLeft
+        requires schema { schema.now ≡ W.opening.schema }
+    {
+        match &self.workflow {
+            Some(workflow) => workflow.work_left(rt, schema),
+            None => WorkLeft {
+                copying: 0,
+                entries: 0,
+            },
+        }
     }
 
     /// Reads the words of an admin line, does what they ask for, and tells what was done, or why it wasn't. If there is no memory to

@@ -12,12 +12,12 @@ mod status;
 mod words;
 
 pub use crate::router::widest_limits;
-pub use administering::administer;
+pub use administering::{administer, work_left};
 pub use administrator::Administrator;
 pub use reply::AdminReply;
 pub use reshard::{
     CutoverStep, Replacement, ReshardConfig, ReshardFault, SourceShard, Stopped, TargetShard,
-    Workflow,
+    WorkLeft, Workflow,
 };
 pub use route_engine::{Answer, Engine, Gate, Open, Reply, Tx};
 pub use setup::administered_router;

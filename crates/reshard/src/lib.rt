@@ -9,6 +9,7 @@ mod cutover;
 mod ending;
 mod finishing;
 mod keeping_up;
+mod left;
 mod ranges;
 mod reopening;
 mod stopping;
@@ -18,6 +19,7 @@ mod workflow;
 pub use context::{Replacement, WorkflowContext};
 pub use cutover::CutoverStep;
 pub use finishing::Resumed;
+pub use left::WorkLeft;
 pub use reshard_create::{
     ReshardConfig, ReshardFault, SourceShard, Step, TargetShard, freeze, retire, serve, thaw,
 };

@@ -14,7 +14,7 @@ ghost use Rattle.vtgate_serve.specs.Conversations.{AllAnswered, BreaksOff, HasEn
 use crate::census::Marks;
 use crate::lines::ended_line;
 use crate::{census, events};
-use admin::{Administrator, Engine, Gate, administer};
+use admin::{Administrator, Engine, Gate, administer, work_left};
 use journal::Naming;
 use log::Log;
 use session::{Sink, Source};
@@ -34,6 +34,9 @@ const UNKNOWN: &[u8] = b"unknown\n";
 
 /// The line by which the shards are asked for.
 const STATUS: &[u8] = b"status";
+
+/// What answers a step that froze a source.
+const FROZE: &[u8] = b"ok freeze\n";
 
 /// A conversation can't go on: a device failed, or a line is too long, has a byte outside 20 to 7E, or there is no memory for it.
 #[derive(Clone, Copy, Debug, PartialEq, Eq)]
@@ -86,6 +89,22 @@ fn tell_answer<W: World + Send + Sync, J: Naming + Send + Sync, G: Gate, R: Wait
     events::administered(rt, words, answer, waiting, events::since(rt, start));
 }
 
+// Logs what is left to copy and to follow, if a source froze before that was done.
+fn tell_left<W: World + Send + Sync, J: Naming + Send + Sync, G: Gate, R: Wait + Log>(
+    rt: &R,
+    engine: &Engine<W, J, G>,
+    administrator: &Administrator<W, J>,
+    answer: &[u8],
+) {
+    if answer != FROZE {
+        return;
+    }
+    let left = work_left(rt, engine, administrator);
+    if left.copying > 0 || left.entries > 0 {
+        events::not_level(rt, left);
+    }
+}
+
 /// What each line is answered with, beside the administrator and its pass.
 #[derive(Drop)]
 struct LineContext<'c, W: World, J: Naming, G: Gate, R> {
@@ -119,6 +138,7 @@ fn answer<W: World + Send + Sync, J: Naming + Send + Sync, G: Gate, R: Wait + Cl
         words,
     );
     tell_answer(context.rt, context.engine, words, reply.line(), start);
+    tell_left(context.rt, context.engine, administrator, reply.line());
     match sink.write(reply.line()) {
         Ok(()) => Ok(()),
         Err(_) => Err(BrokenOff),

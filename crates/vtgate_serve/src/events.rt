@@ -2,7 +2,7 @@
 
 use crate::cutover::Times;
 use crate::setup::{RunFault, ServeArgs};
-use admin::widest_limits;
+use admin::{WorkLeft, widest_limits};
 use connection_workers::NotRun;
 use keyrange::KeyRange;
 use log::kv::{Primitive, Source, Value, VisitSource};
@@ -227,6 +227,11 @@ pub fn administered<R: Log>(rt: &R, words: &[u8], answer: &[u8], waiting: u64, t
     let line = str::from_utf8(words).unwrap_or("");
     let answer = str::from_utf8(answer).unwrap_or("").trim_end();
     info!(rt; line = line, answer = answer, waiting = waiting, seconds:% = time; "admin");
+}
+
+/// Sources froze before their targets are level: so much is copied and followed while writes wait.
+pub fn not_level<R: Log>(rt: &R, left: WorkLeft) {
+    warn!(rt; copying = left.copying, entries = left.entries; "not_level");
 }
 
 impl Source for Times {
