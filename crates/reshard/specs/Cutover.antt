@@ -70,21 +70,21 @@ pub data HasSwitched (o : Opening) (w : WorkflowView) (now : WorkflowView) (p q 
   released : w.published ≡ true → length w.sources ≤ w.retired → length w.targets ≤ w.served → now ≡ record w { stage = stages.Switched; prepared = true }
       → HasSwitched o w now p q Release
 
--- before the first retirement the pass looks at targets and their sources, as a step does that finds all level, and once more at each target
+-- before the first retirement the pass looks at targets and their sources, as a step does that finds all level, and then once at each target
 abbrev pub HasFoundReady : WorkflowView → PassView Entry → PassView Entry → Type 0
 HasFoundReady w p m =
-    (l : PassView Entry) × IsOneStepFirst w.targets p l moves.Level × EachInTurn (λ (t : TargetWithSources). HasLookedOnlyAt t.0.slot) w.targets l m
+    (l : PassView Entry) × IsOneStepFirst w.targets p l moves.Level × EachInTurn (λ (t : TargetWithSources). HasLookedAt (t.0.slot ∷ [])) w.targets l m
 
--- The steps from the first retirement on: the pass looks at the source that retires alone; or at the sources, one after the other, and then at the
--- target alone that serves; or nowhere.
+-- The steps from the first retirement on: the pass looks at the source that retires alone, and changes its mode once; or at the sources, one after the
+-- other, and then so at the target that serves; or nowhere.
 abbrev pub EndsAlone : WorkflowView → PassView Entry → PassView Entry → CutoverStep → Type 0
 EndsAlone w m q Freeze = ⊥
 EndsAlone w m q Copy = ⊥
 EndsAlone w m q Follow = ⊥
-EndsAlone w m q Retire = (s : ShardRecord) × (slice_get w.sources w.retired ≡ Some s) × HasLookedOnlyAt s.slot m q
+EndsAlone w m q Retire = (s : ShardRecord) × (slice_get w.sources w.retired ≡ Some s) × HasLookedForOneChange s.slot m q
 EndsAlone w m q Serve =
     (t : TargetWithSources) × (slice_get w.targets w.served ≡ Some t) × (n : PassView Entry) × EachInTurn (λ s. HasLookedOnlyAt s.slot) w.sources m n
-    × HasLookedOnlyAt t.0.slot n q
+    × HasLookedForOneChange t.0.slot n q
 EndsAlone w m q Publish = q ≡ m
 EndsAlone w m q Release = q ≡ m
 

@@ -104,7 +104,7 @@ impl<W: World, J: Naming> Workflow<W, J> {
         requires prepared { self.old.prepared ≡ true }
         ensures retired { (s : which.ShardRecord) × (slice_get self.old.sources self.old.retired ≡ Some s)
             × HasStepped W.opening s (Event.Retire (named_for s (shards_of self.old.targets))) pass.old pass.new
-            × HasLookedOnlyAt s.slot pass.old pass.new }
+            × HasLookedForOneChange s.slot pass.old pass.new }
         ensures now { self.new ≡ record self.old { retired = self.old.retired + 1 } }
     {
         let targets = self.named.next().unwrap();
@@ -131,7 +131,7 @@ impl<W: World, J: Naming> Workflow<W, J> {
         requires legal { IsLegal (MayFollow W.opening) pass.old.seen }
         requires some { self.old.served < length self.old.targets }
         ensures served { (t : TargetWithSources) × (slice_get self.old.targets self.old.served ≡ Some t) × HasStepped W.opening t.0 Event.Serve pass.old pass.new
-            × (n : PassView Entry) × EachInTurn (λ s. HasLookedOnlyAt s.slot) self.old.sources pass.old n × HasLookedOnlyAt t.0.slot n pass.new }
+            × (n : PassView Entry) × EachInTurn (λ s. HasLookedOnlyAt s.slot) self.old.sources pass.old n × HasLookedForOneChange t.0.slot n pass.new }
         ensures now { self.new ≡ record self.old { served = self.old.served + 1 } }
     {
         let target = &self.targets[self.served];

@@ -15,11 +15,7 @@ pub struct WorkLeft {
 }
 
 // Whether a target has rows left to copy from the source on the slot.
-fn copies_from<W: World, J: Naming>(
-    state: &ShardState<W, J>,
-    schema: &VSchema,
-    slot: usize,
-) -> bool
+fn copies_from<W: World, J: Naming>(state: &ShardState<W, J>, schema: &VSchema, slot: usize) -> bool
     requires schema { schema.now ≡ W.opening.schema }
 {
     match state.mode() {

@@ -134,11 +134,10 @@ impl<W: World, J: Naming> Workflow<W, J> {
     // the statements do go on, is for tests. It is taken exactly while targets follow or the cutover has begun (else N4, and nothing changed).
     // For want of memory, and if a source or a target would pass a limit (F24), which it returns only if the pass came by it, the cutover is
     // given up, of which no source is retired: each source serves again and isn't looked at after that, and the targets follow. A step does no
-    // more than it returns: one that moves a target is one step of it, as `step` takes it; one
-    // that freezes or retires a source, or has a target serve, ends with looks at that shard alone, and before them it looked only at targets and
-    // their sources, as a step does that finds all level, or at sources that are retired; and the others look nowhere. The first source
-    // retires only if the workflow has frozen all, and the step found each target level, and then with no more rows than a shard that serves
-    // may have
+    // more than it returns: one that moves a target is one step of it, as `step` takes it; one that freezes or retires a source, or has a target
+    // serve, ends with three looks at that shard alone, so its mode changes once, and before them it looked only at targets and their sources, as a
+    // step does that finds all level, and once at each target, or at sources that are retired; and the others look nowhere. The first source retires
+    // only if the workflow has frozen all, and the step found each target level, and then with no more rows than a shard that serves may have
     /// Takes the next step of the cutover, and returns which: the next source is frozen; once all are, the first target moves that isn't level,
     /// else the next source is retired; then the targets serve, the next partition is published, and the statements that waited go on.
     /// Refuses if no targets follow and no cutover has begun. For want of memory, and if a shard would have more rows or entries than

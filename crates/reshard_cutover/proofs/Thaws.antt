@@ -86,20 +86,6 @@ pub look_alone : (slot here : ℕ) (p now : PassView Entry) (run : Run) (n : ℕ
     → now ≡ record p { seen = run; looks = p.looks ++ (here, n) ∷ [] } → HasLookedOnlyAt slot p now
 look_alone slot here p now run n same is = looked_once slot here p now same (looked_at p now here run n is)
 
-pub append_alone : (slot : ℕ) (p now : PassView Entry) (run : Run) → now ≡ record p { seen = run } → HasLookedOnlyAt slot p now
-append_alone slot p now run is = record { looks = []; alone = tt; looked = appended_since p now run is }
-
-both_alone : (slot : ℕ) (a b : List ℕ) → AllByRecursion (λ n. n ≡ slot) a → AllByRecursion (λ n. n ≡ slot) b → AllByRecursion (λ n. n ≡ slot) (a ++ b)
-both_alone slot [] b all more = more
-both_alone slot (n ∷ a) b all more = (all.0, both_alone slot a b all.1 more)
-
-pub looked_on : (slot : ℕ) (p q now : PassView Entry) → HasLookedOnlyAt slot p q → HasLookedOnlyAt slot q now → HasLookedOnlyAt slot p now
-looked_on slot p q now first more = record {
-  looks = first.looks ++ more.looks;
-  alone = both_alone slot first.looks more.looks first.alone more.alone;
-  looked = looked_then first.looks more.looks p q now first.looked more.looked;
-}
-
 -- a look at each so far, and at one more
 module _ {S : Type 0} (slot : S → ℕ) (shards : List S) (n : ℕ) (s : S) (there : n < length shards) (is : s ≡ get_or shards n s) (p q now : PassView Entry) where
   pub look_next : HasLookedAt (map slot (take n shards)) p q → HasLookedAt (slot s ∷ []) q now → HasLookedAt (map slot (take (n + 1) shards)) p now
@@ -118,16 +104,6 @@ module _ {S X : Type 0} (which : S → X) (slot : X → ℕ) (shards : List S) (
       (subst (λ (l : List X). HasLookedAt (map slot l) p now) (sym (map-append which (take n shards) (s ∷ [])))
       (subst (λ (l : List ℕ). HasLookedAt l p now) (sym (map-append slot (map which (take n shards)) (which s ∷ [])))
       (looked_then (map slot (map which (take n shards))) (slot (which s) ∷ []) p q now before at)))
-
--- a change of mode looks there alone
-pub change_alone : (o : Opening) (slot : ℕ) (v : ShardView) (ev : Event) (p now : PassView Entry) → v.shard.slot ≡ slot → HasChangedMode o v ev p now
-    → HasLookedOnlyAt slot p now
-change_alone o slot v ev p now same is =
-    let q = is.twice.first in
-    let r = is.looked in
-    looked_on slot p q now (look_alone slot v.shard.slot p q q.seen (length q.seen) same is.twice.once.pass)
-    (looked_on slot q r now (look_alone slot v.shard.slot q r r.seen (length r.seen) same is.twice.again.pass)
-    (append_alone slot r now now.seen is.appended.pass))
 
 -- the two looks before a change of mode
 pub change_looks : (o : Opening) (slot : ℕ) (v : ShardView) (ev : Event) (p now : PassView Entry) → v.shard.slot ≡ slot → HasChangedMode o v ev p now

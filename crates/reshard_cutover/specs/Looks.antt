@@ -1,5 +1,5 @@
 -- What looks at the shards of a cutover show, at a run that the controller's pass came by.
-use Rattle.std.specs.Prelude.{◌≡◌, ℕ, ◌<◌, ◌≤◌, List, [], ◌∷◌, ◌++◌, map}
+use Rattle.std.specs.Prelude.{◌≡◌, ℕ, ◌⊎◌, ◌<◌, ◌≤◌, List, [], ◌∷◌, ◌++◌, map}
 use Rattle.std.specs.List.{AllByRecursion}
 use Rattle.journal.specs.Views.{PassView}
 use Rattle.shard_run.specs.declared.ShardRecord.{ShardRecord}
@@ -31,11 +31,11 @@ pub record HasLookedOnlyAt (slot : ℕ) (p now : PassView Entry) : Type 0 where
 abbrev pub HasLookedForOneChange : ℕ → PassView Entry → PassView Entry → Type 0
 HasLookedForOneChange slot p now = HasLookedAt (slot ∷ slot ∷ slot ∷ []) p now
 
--- The pass looked at this shard alone, and what it has seen then ends with the shard serving and not frozen: its last Freeze was followed by
--- its Thaw, or there was none.
+-- The pass looked at this shard alone, once, or as for one change of its mode, and what it has seen then ends with the shard serving and not
+-- frozen: so it was thawed, or its mode wasn't changed.
 pub record HasThawed (o : Opening) (s : ShardRecord) (p now : PassView Entry) : Type 0 where
   pub onward : IsOnward o p now
-  pub alone : HasLookedOnlyAt s.slot p now
+  pub once : HasLookedAt (s.slot ∷ []) p now ⊎ HasLookedForOneChange s.slot p now
   pub serving : mode o now.seen s.slot ≡ modes.Serving
 
 -- At a run that the pass came by the shard was retired, so that no statement reads it from then on.

@@ -7,7 +7,7 @@ ghost use Rattle.shard_run.specs.Openings.{IsOpening, row_count};
 ghost use Rattle.shard_contents.specs.Entries.{MayFollow};
 ghost use Rattle.follow.specs.Steps.{IsOnward, HasStepped};
 ghost use Rattle.follow.specs.Turns.{HasLookedAt};
-ghost use Rattle.reshard_cutover.specs.Looks.{HasLookedForOneChange, HasLookedOnlyAt};
+ghost use Rattle.reshard_cutover.specs.Looks.{HasLookedForOneChange};
 ghost use Rattle.reshard_cutover.specs.Steps.{has_source, AreRetired, IsTargetOf, FitTargets};
 ghost use Rattle.reshard_cutover.specs.inner.Steps.{IsUpTo, AreFollowed};
 
@@ -39,8 +39,8 @@ pub fn serves<W: World, J: Naming>(state: &ShardState<W, J>) -> bool
 // Promise: A step of a cutover is exactly one entry of its shard, made after a look under its lock: a freeze (refused only at 2^40
 // entries), a thaw, a retirement for targets that together hold the shard's place, when it has stored just so many entries, and a target
 // that serves once its sources, of which there may be several, are retired for it and it has copied all tables and followed all that they
-// stored. A freeze looks at its shard three times, and nowhere else, so its pass freezes no other, and that one once. A retirement, and a target that
-// serves, look at their shard alone, so they change no other's mode
+// stored. A freeze, a retirement, and a target that serves each look at their shard three times, and nowhere else: so the pass changes no other's mode,
+// and that one's once
 // With: thaw, retire, serve
 /// Freezes the shard, and answers how many entries it has stored. Refuses if it has too many entries; then nothing was appended. Takes no
 /// memory.
@@ -114,7 +114,7 @@ pub fn retire<W: World, J: Naming>(
     requires fit { FitTargets which.now targets }
     ensures retired { HasStepped W.opening which.now (Event.Retire targets) pass.old pass.new }
     ensures stored { stored ≡ length (stored_on which.now.slot pass.new.seen) }
-    ensures alone { HasLookedOnlyAt which.now.slot pass.old pass.new }
+    ensures once { HasLookedForOneChange which.now.slot pass.old pass.new }
 {
     let mut state = shard.state().lock_when(rt, |state| {
         state.is(which) && is_frozen_after(state, stored)
@@ -218,7 +218,7 @@ pub fn serve<W: World, J: Naming>(
     requires of_sources { IsTargetOf (map (λ s. s.member.which) sources.now) target.now.which }
     requires retired { AreRetired pass.old.seen target.now.which (map (λ s. (s.member.which, s.stored)) sources.now) }
     ensures served { HasStepped W.opening target.now.which Event.Serve pass.old pass.new }
-    ensures alone { HasLookedOnlyAt target.now.which.slot pass.old pass.new }
+    ensures once { HasLookedForOneChange target.now.which.slot pass.old pass.new }
 {
     let which = &target.which;
     let mut state = target

@@ -1,11 +1,12 @@
-use Rattle.std.proofs.Common.{map, sym, subst}
+use Rattle.std.proofs.Common.{◌∷◌, [], map, sym, subst}
 use Rattle.journal.proofs.Fronts.{prefix_self}
 use Rattle.reshard_cutover.proofs.Onward.{still, onward_trans}
 use Rattle.reshard_cutover.proofs.Thaws.{within_next}
 use Rattle.reshard_cutover.specs.TargetSources.{TargetWithSources}
 use Rattle.follow.specs.Turns as turns
+use Rattle.follow.specs.Turns.{HasLookedAt}
 use Rattle.follow.proofs.Turns.{one_more_turn, all_took_turns}
-use Rattle.reshard_cutover.specs.Looks.{HasLookedOnlyAt, IsWithinRows}
+use Rattle.reshard_cutover.specs.Looks.{IsWithinRows}
 use Rattle.shard_contents.proofs.Progress.{take_whole}
 use Rattle.std.specs.List.{AllByRecursion}
 use Rattle.reshard_cutover.proofs.Retiring.{map_at}
@@ -49,8 +50,8 @@ loop-target-preserved g c =
           c.fits.ensures.onward (c.fits.ensures.few c.if-not-fits.false) c.loop-target.invariant.few;
       looked =
           one_more_turn {X = TargetWithSources} (λ t. (t.member.which, map (λ s. s.which) t.sources.items)) c.args.targets.now c.loop-target.target-index c.target-item.result
-          c.loop-target-test.true c.target-item.is (λ t. HasLookedOnlyAt t.0.slot) p c.loop-target.pass c.fits.new.pass c.loop-target.invariant.looked
-          c.fits.ensures.alone;
+          c.loop-target-test.true c.target-item.is (λ t. HasLookedAt (t.0.slot ∷ [])) p c.loop-target.pass c.fits.new.pass c.loop-target.invariant.looked
+          c.fits.ensures.looked;
     }
 
 pub returns-clause-onward : goal.returns-clause-onward
@@ -65,4 +66,4 @@ returns-clause-few g c e =
 pub returns-clause-looked : goal.returns-clause-looked
 returns-clause-looked g c e =
     all_took_turns {X = TargetWithSources} (λ t. (t.member.which, map (λ s. s.which) t.sources.items)) c.args.targets.now c.loop-target.target-index c.loop-target-test.false
-    (λ t. HasLookedOnlyAt t.0.slot) c.args.pass.now c.loop-target.pass c.loop-target.invariant.looked
+    (λ t. HasLookedAt (t.0.slot ∷ [])) c.args.pass.now c.loop-target.pass c.loop-target.invariant.looked

@@ -1,4 +1,4 @@
-use Rattle.std.proofs.Common.{◌≡◌, ◌<◌, ◌≤◌, refl, sym, subst, ◌∙◌, rules}
+use Rattle.std.proofs.Common.{◌≡◌, ◌<◌, ◌≤◌, sym, subst, ◌∙◌, rules}
 use Rattle.std.proofs.lemmas.Bool.{leb-true, leb-false}
 use Rattle.std.specs.Sync.Mutex.{mutex_guard_value}
 use Rattle.shard_run.specs.declared.ShardRecord.{ShardRecord}
@@ -8,8 +8,8 @@ use Rattle.shard_run.specs.Openings.{row_count}
 use Rattle.shard_contents.specs.Entries.{ShardView}
 use Rattle.follow.proofs.LockedLooks.{LookedAs, looked_as, mode_here}
 use Rattle.follow.specs.Steps.{IsOnward}
+use Rattle.follow.proofs.Turns.{looked_at}
 use Rattle.reshard_cutover.proofs.Onward.{looked_first}
-use Rattle.reshard_cutover.proofs.Thaws.{look_alone}
 use Rattle.reshard_cutover.proofs.fitting.fits.Goals as goal
 use Rattle.reshard_cutover.proofs.fitting.fits.Goals.{After-deref-2}
 
@@ -54,10 +54,10 @@ returns-clause-few g c e =
     (subst (λ (v : ShardView). row_count (shard_rows o v.seen v.shard) ≤ g.W.World.limits.rows) c.deref-2.ensures
     (leb-true (row_count (shard_rows o x.seen x.shard)) g.W.World.limits.rows (sym c.fits.ensures ∙ e))))
 
-pub returns-clause-alone : goal.returns-clause-alone
-returns-clause-alone g c =
-    let b = (goal.at.returns-clause-alone g c).After-deref-2 in
-    look_alone c.args.member.now.which.slot c.args.member.now.which.slot c.args.pass.now c.look.new.pass _ _ refl (seen g b).pass
+pub returns-clause-looked : goal.returns-clause-looked
+returns-clause-looked g c =
+    let b = (goal.at.returns-clause-looked g c).After-deref-2 in
+    looked_at c.args.pass.now c.look.new.pass c.args.member.now.which.slot _ _ (seen g b).pass
 
 pub returns-clause-onward : goal.returns-clause-onward
 returns-clause-onward g c =

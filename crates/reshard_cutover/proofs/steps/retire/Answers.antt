@@ -1,4 +1,4 @@
-use Rattle.std.proofs.Common.{◌≡◌, length, refl, sym, ap, subst, ◌∙◌, rules}
+use Rattle.std.proofs.Common.{◌≡◌, ◌∷◌, [], length, refl, sym, ap, subst, ◌∙◌, rules}
 use Rattle.std.specs.Sync.Mutex.{mutex_guard_value}
 use Rattle.shard_run.specs.declared.ShardRecord.{ShardRecord}
 use Rattle.shard_run.specs.declared.Event.TheVariants.{Retire}
@@ -7,9 +7,10 @@ use Rattle.shard_run.specs.Runs.{Run, mode, stored_on}
 use Rattle.shard_contents.specs.Entries.{ShardView}
 use Rattle.follow.proofs.LockedLooks.{LookedAs, looked_as, mode_here, stored_stays}
 use Rattle.follow.specs.Steps.{IsOnward}
+use Rattle.follow.proofs.Turns.{looked_at, looked_then}
 use Rattle.reshard_cutover.specs.Steps.{FitTargets}
 use Rattle.reshard_cutover.proofs.Onward.{looked_first, changed, stored_unchanged}
-use Rattle.reshard_cutover.proofs.Thaws.{look_alone, change_alone, looked_on}
+use Rattle.reshard_cutover.proofs.Thaws.{change_looks}
 use Rattle.reshard_cutover.proofs.steps.retire.Goals as goal
 use Rattle.reshard_cutover.proofs.steps.retire.Goals.{After-deref_mut-2}
 
@@ -63,11 +64,12 @@ returns-clause-stored g c =
     ∙ ap length (sym (stored_unchanged g.W.World.opening st (Retire c.args.targets) c.look.new.pass c.retire.new.pass c.retire.ensures.changed refl))
     ∙ ap (λ (s : ShardRecord). length (stored_on s.slot c.retire.new.pass.seen)) (same g b)
 
-pub returns-clause-alone : goal.returns-clause-alone
-returns-clause-alone g c =
-    let b = (goal.at.returns-clause-alone g c).After-deref_mut-2 in
+pub returns-clause-once : goal.returns-clause-once
+returns-clause-once g c =
+    let b = (goal.at.returns-clause-once g c).After-deref_mut-2 in
     let slot = c.args.which.now.slot in
     let p = c.args.pass.now in
     let q = c.look.new.pass in
-    looked_on slot p q c.retire.new.pass (look_alone slot slot p q _ _ refl (seen g b).pass)
-    (change_alone g.W.World.opening slot c.deref_mut-2.result.now (Retire c.args.targets) q c.retire.new.pass (ap (λ (s : ShardRecord). s.slot) (same g b)) c.retire.ensures.changed)
+    let now = c.retire.new.pass in
+    looked_then (slot ∷ []) (slot ∷ slot ∷ []) p q now (looked_at p q slot _ _ (seen g b).pass)
+    (change_looks g.W.World.opening slot c.deref_mut-2.result.now (Retire c.args.targets) q now (ap (λ (s : ShardRecord). s.slot) (same g b)) c.retire.ensures.changed)

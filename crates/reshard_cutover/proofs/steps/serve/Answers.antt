@@ -1,4 +1,4 @@
-use Rattle.std.proofs.Common.{◌≡◌, ◌≤◌, map, refl, sym, ap, subst, ◌∙◌, rules}
+use Rattle.std.proofs.Common.{◌≡◌, ◌∷◌, [], ◌≤◌, map, sym, ap, subst, ◌∙◌, rules}
 use Rattle.std.specs.Sync.Mutex.{mutex_guard_value}
 use Rattle.shard_run.specs.declared.ShardRecord.{ShardRecord}
 use Rattle.shard_run.specs.declared.Event.TheVariants.{Serve}
@@ -11,9 +11,10 @@ use Rattle.shard_contents.proofs.Legality.{legal_is}
 use Rattle.shard_contents.proofs.States.{held-same}
 use Rattle.follow.proofs.LockedLooks.{LookedAs, looked_as, mode_here}
 use Rattle.follow.specs.Steps.{IsOnward}
+use Rattle.follow.proofs.Turns.{looked_at, looked_then}
 use Rattle.reshard_cutover.specs.inner.Steps.{AreFollowed}
 use Rattle.reshard_cutover.proofs.Onward.{looked_first, changed}
-use Rattle.reshard_cutover.proofs.Thaws.{look_alone, change_alone, looked_on}
+use Rattle.reshard_cutover.proofs.Thaws.{change_looks}
 use Rattle.reshard_cutover.proofs.Retiring.{may_serve_looked, followed-same}
 use Rattle.reshard_cutover.proofs.steps.serve.Goals as goal
 use Rattle.reshard_cutover.proofs.steps.serve.Goals.{After-deref_mut-2}
@@ -75,11 +76,12 @@ returns-clause-served g c =
     let b = (goal.at.returns-clause-served g c).After-deref_mut-2 in
     changed g.W.World.opening c.args.pass.now c.look.new.pass c.serve.new.pass c.deref_mut-2.result.now c.args.target.now.which Serve (on g b) c.serve.ensures.changed (same g b)
 
-pub returns-clause-alone : goal.returns-clause-alone
-returns-clause-alone g c =
-    let b = (goal.at.returns-clause-alone g c).After-deref_mut-2 in
+pub returns-clause-once : goal.returns-clause-once
+returns-clause-once g c =
+    let b = (goal.at.returns-clause-once g c).After-deref_mut-2 in
     let slot = c.args.target.now.which.slot in
     let p = c.args.pass.now in
     let q = c.look.new.pass in
-    looked_on slot p q c.serve.new.pass (look_alone slot slot p q _ _ refl (seen g b).pass)
-    (change_alone g.W.World.opening slot c.deref_mut-2.result.now Serve q c.serve.new.pass (ap (λ (s : ShardRecord). s.slot) (same g b)) c.serve.ensures.changed)
+    let now = c.serve.new.pass in
+    looked_then (slot ∷ []) (slot ∷ slot ∷ []) p q now (looked_at p q slot _ _ (seen g b).pass)
+    (change_looks g.W.World.opening slot c.deref_mut-2.result.now Serve q now (ap (λ (s : ShardRecord). s.slot) (same g b)) c.serve.ensures.changed)

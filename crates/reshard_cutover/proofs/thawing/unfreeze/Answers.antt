@@ -1,4 +1,4 @@
-use Rattle.std.proofs.Common.{◌≡◌, true, refl, sym, ap, subst, ◌∙◌, rules}
+use Rattle.std.proofs.Common.{◌≡◌, ◌∷◌, [], true, inl, inr, refl, sym, ap, subst, ◌∙◌, rules}
 use Rattle.std.specs.Sync.Mutex.{mutex_guard_value}
 use Rattle.shard_run.specs.declared.ShardRecord.{ShardRecord}
 use Rattle.shard_run.specs.declared.Event.TheVariants.{Thaw}
@@ -7,9 +7,10 @@ use Rattle.shard_run.specs.Runs.{Run, mode, answers_queries}
 use Rattle.shard_contents.specs.Entries.{ShardView}
 use Rattle.follow.proofs.LockedLooks.{LookedAs, looked_as, mode_here}
 use Rattle.follow.specs.Steps.{IsOnward}
+use Rattle.follow.proofs.Turns.{looked_at, looked_then}
 use Rattle.reshard_cutover.proofs.Modes.{frozen_of}
 use Rattle.reshard_cutover.proofs.Onward.{looked_first, changed}
-use Rattle.reshard_cutover.proofs.Thaws.{mode_now, look_alone, change_alone, looked_on}
+use Rattle.reshard_cutover.proofs.Thaws.{mode_now, change_looks}
 use Rattle.reshard_cutover.proofs.thawing.unfreeze.Goals as goal
 use Rattle.reshard_cutover.proofs.thawing.unfreeze.Goals.{After-deref_mut-3}
 
@@ -51,7 +52,7 @@ returns-then-serves-clause-thawed g c =
     let o = g.W.World.opening in
     record {
       onward = looked_first g.W.World.opening c.args.pass.now c.look.new.pass _ _ _ c.requires.legal c.look.ensures.seen c.look.ensures.pass;
-      alone = look_alone c.args.member.now.which.slot c.args.member.now.which.slot c.args.pass.now c.look.new.pass _ _ refl l.pass;
+      once = inl (looked_at c.args.pass.now c.look.new.pass c.args.member.now.which.slot _ _ l.pass);
       serving =
           ap (λ (r : Run). mode o r c.args.member.now.which.slot) l.seen ∙ ap (λ (s : ShardRecord). mode o c.look.new.self.seen s.slot) (sym l.is)
           ∙ ap (λ (v : ShardView). mode o v.seen v.shard.slot) (sym (c.deref-2.ensures ∙ c.drop_sorted.ensures ∙ c.deref_mut-2.ensures.value))
@@ -72,9 +73,9 @@ returns-clause-thawed g c =
     let is = c.thaw.ensures.changed in
     record {
       onward = (changed o c.args.pass.now q now st which Thaw (on g b) is (same g b)).onward;
-      alone =
-          looked_on which.slot c.args.pass.now q now (look_alone which.slot which.slot c.args.pass.now q _ _ refl (seen g b).pass)
-          (change_alone o which.slot st Thaw q now (ap (λ (s : ShardRecord). s.slot) (same g b)) is);
+      once =
+          inr (looked_then (which.slot ∷ []) (which.slot ∷ which.slot ∷ []) c.args.pass.now q now (looked_at c.args.pass.now q which.slot _ _ (seen g b).pass)
+          (change_looks o which.slot st Thaw q now (ap (λ (s : ShardRecord). s.slot) (same g b)) is));
       serving = mode_now o (record st { seen = is.looked.seen }) Thaw is.looked now is.appended which (same g b) Serving (λ b. refl);
     }
 

@@ -64,5 +64,5 @@ returns-clause-retired g c =
       view_there (λ s. s.member.which) c.args.self.now.sources c.args.self.now.retired sources i s view place c.requires.some c.index-source.ensures,
       subst (λ l. HasStepped g.W.World.opening s.member.which (Retire l) c.args.pass.now c.retire.new.pass)
           (w.0 ∙ ap (λ (v : WorkflowView). named_for s.member.which (shards_of v.targets)) c.self.view_is) c.retire.ensures.retired,
-      c.retire.ensures.alone,
+      c.retire.ensures.once,
     )

@@ -35,5 +35,5 @@ returns-clause-served g c =
       c.confirm_retired.new.pass,
       subst (λ (l : List ShardRecord). EachInTurn (λ s. HasLookedOnlyAt s.slot) l c.args.pass.now c.confirm_retired.new.pass)
           (ap (map (λ s. s.member.which)) c.as_slice.ensures.value ∙ ap (λ (w : WorkflowView). w.sources) c.self.view_is) c.confirm_retired.ensures.looked,
-      c.serve.ensures.alone,
+      c.serve.ensures.once,
     )

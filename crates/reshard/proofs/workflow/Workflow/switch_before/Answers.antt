@@ -1,4 +1,4 @@
-use Rattle.std.proofs.Common.{◌≡◌, true, List, length, map, refl, sym, ap, ◌∙◌, subst, arith}
+use Rattle.std.proofs.Common.{◌≡◌, ◌∷◌, [], true, List, length, map, refl, sym, ap, ◌∙◌, subst, arith}
 use Rattle.std.proofs.lemmas.List.{length-map}
 use Rattle.std.specs.Prelude.{IfOk, IfErr, MatchOption, slice_get}
 use Rattle.journal.proofs.Fronts.{prefix_self}
@@ -13,8 +13,8 @@ use Rattle.reshard.specs.declared.cutover.CutoverStep.{CutoverStep}
 use Rattle.reshard.specs.declared.cutover.CutoverStep.TheVariants.{Retire}
 use Rattle.reshard_create.specs.Step.TheVariants.{Level}
 use Rattle.std.specs.List.{AllByRecursion}
-use Rattle.reshard_create.specs.Turns.{EachInTurn}
-use Rattle.reshard_create.specs.Looks.{HasLookedOnlyAt, IsWithinRows}
+use Rattle.reshard_create.specs.Turns.{EachInTurn, HasLookedAt}
+use Rattle.reshard_create.specs.Looks.{IsWithinRows}
 use Rattle.reshard.specs.Cutover.{IsSwitchRefusal, overfull, HasFoundReady, DoesNoMore, MayRetireFirst}
 use Rattle.reshard.proofs.Nexts.{from_move, refusal_within}
 use Rattle.reshard_create.proofs.Residual.{residual_same}
@@ -137,7 +137,7 @@ returns-clause-once g c =
           subst (λ r. IfOk r (λ r. MatchOption r (HasFoundReady w p now) (DoesNoMore w p now))) (sym w'.result-is) (
             q,
             level,
-            subst (λ (l : List TargetWithSources). EachInTurn (λ (t : TargetWithSources). HasLookedOnlyAt t.0.slot) l q now) ts2 (c.all_fit.ensures.looked w'.if-all_fit.true),
+            subst (λ (l : List TargetWithSources). EachInTurn (λ (t : TargetWithSources). HasLookedAt (t.0.slot ∷ [])) l q now) ts2 (c.all_fit.ensures.looked w'.if-all_fit.true),
           )
       | else-all_fit w' ↦ subst (λ r. IfOk r (λ r. MatchOption r (HasFoundReady w p now) (DoesNoMore w p now))) (sym w'.result-is) tt
     ]
