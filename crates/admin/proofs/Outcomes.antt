@@ -13,7 +13,7 @@ use Rattle.reshard.specs.Workflows.{WorkflowView}
 use Rattle.reshard.specs.FirstMoves.{IsMoveRefusal, IsNoStepFirst, IsFullFirst}
 use Rattle.reshard.specs.Begun.{IsCreateRefusal}
 use Rattle.reshard.specs.Looked.{HasLookedAtParts}
-use Rattle.reshard.specs.Cutover.{MaySwitch, MayCancel, HasStopped, HasStoppedLater}
+use Rattle.reshard.specs.Cutover.{MaySwitch, MayCancel, HasStoppedShort, HasStoppedLater}
 use Rattle.admin.specs.declared.reply.AdminReply.TheVariants.{Refused}
 use Rattle.admin.specs.AdminAnswers.{HasCreated, AnswersStep, HasCutOver, HasAdvanced, HasResumed, HasCancelled, HasCompleted}
 use Rattle.admin.specs.AdminAnswers as told
@@ -32,7 +32,7 @@ module _ (o : Opening) (most : Limits) (w now : WorkflowView) (p q : PassView En
   switch_refused (inl h) = subst (λ x. HasCutOver o most w now p q (Refused x)) (sym h.0) (told.wrong_state h.1 h.2 h.3)
   switch_refused (inr h) = told.refused h.0 h.1
 
-  pub advance_refused : ((e ≡ faults.WrongState) × (MaySwitch w → ⊥) × (now ≡ w) × (q ≡ p)) ⊎ (MaySwitch w × HasStopped o most w now p q e)
+  pub advance_refused : ((e ≡ faults.WrongState) × (MaySwitch w → ⊥) × (now ≡ w) × (q ≡ p)) ⊎ (MaySwitch w × HasStoppedShort o most w now p q e)
       → HasAdvanced o most w now p q (Refused e)
   advance_refused (inl h) = subst (λ x. HasAdvanced o most w now p q (Refused x)) (sym h.0) (told.wrong_state h.1 h.2 h.3)
   advance_refused (inr h) = told.refused h.0 h.1

@@ -19,7 +19,7 @@ use Rattle.reshard.specs.Workflows.{WorkflowView}
 use Rattle.reshard.specs.Served.{AreServed}
 use Rattle.reshard.specs.FirstMoves.{HasMovedFirst, IsMoveRefusal, IsOneStepFirst, IsNoStepFirst, IsFullFirst}
 use Rattle.reshard.specs.Begun.{HasBegun, IsCreateRefusal}
-use Rattle.reshard.specs.Cutover.{MaySwitch, MayCancel, HasSwitched, DoesNoMore, MayRetireFirst, HasStopped, HasStoppedLater, HasFinished, IsResumed}
+use Rattle.reshard.specs.Cutover.{MaySwitch, MayCancel, HasSwitched, DoesNoMore, MayRetireFirst, HasStoppedShort, HasStoppedLater, HasFinished, IsResumed}
 use Rattle.reshard.specs.Cutover as cutovers
 use Rattle.reshard.specs.Looked.{HasLookedAtEach, HasLookedAtParts}
 use Rattle.reshard.specs.Turns.{EachInTurn, HasLookedAt}
@@ -98,7 +98,7 @@ pub data HasCutOver (o : Opening) (most : Limits) (w now : WorkflowView) (p q : 
 pub data HasAdvanced (o : Opening) (most : Limits) (w now : WorkflowView) (p q : PassView Entry) : AdminReply → Type 0 where
   done : {step : CutoverStep} → MaySwitch w → HasSwitched o w now p q step → DoesNoMore w p q step
       → (step ≡ Retire → w.retired ≡ 0 → MayRetireFirst o most w p q) → HasAdvanced o most w now p q (Took step)
-  refused : {e : ReshardFault} → MaySwitch w → HasStopped o most w now p q e → HasAdvanced o most w now p q (Refused e)
+  refused : {e : ReshardFault} → MaySwitch w → HasStoppedShort o most w now p q e → HasAdvanced o most w now p q (Refused e)
   wrong_state : (MaySwitch w → ⊥) → now ≡ w → q ≡ p → HasAdvanced o most w now p q (Refused faults.WrongState)
 
 -- `resume` undid or ended the cutover that had begun.

@@ -15,8 +15,8 @@ use route_engine::{ShardPass, World};
 use std::alloc::Global;
 use std::marker::Model;
 use std::sync::Wait;
-use vt_value::Refusal;
 use vschema::VSchema;
+use vt_value::Refusal;
 use vtgate_lines::{AdminLine, read_admin_line};
 
 fn refused(fault: ReshardFault) -> AdminReply

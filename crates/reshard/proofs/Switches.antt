@@ -1,6 +1,6 @@
 -- The steps of a cutover, and why one stops.
-use Rattle.std.proofs.Common.{◌≡◌, ◌⊎◌, ◌+◌, ◌≤◌, Bool, true, List, length, Option, Some, None, refl, sym, ap, ◌∙◌, subst}
-use Rattle.std.specs.Prelude.{Contains, slice_get, slice_set, MatchOption}
+use Rattle.std.proofs.Common.{◌≡◌, ◌⊎◌, ◌+◌, ◌≤◌, Bool, true, List, length, Option, Some, None, Result, Ok, Err, refl, sym, ap, ◌∙◌, subst}
+use Rattle.std.specs.Prelude.{Contains, slice_get, slice_set, MatchOption, OnErr}
 use Rattle.std.specs.List.{AllByRecursion}
 use Rattle.journal.specs.Views.{PassView}
 use Rattle.vt_value.specs.declared.refusal.Refusal.{Refusal}
@@ -118,6 +118,10 @@ module _ (o : Opening) (most : Limits) (sources : List ShardRecord) (targets : L
 pub refused_as : (o : Opening) (most : Limits) (w w1 : WorkflowView) (b : Bool) (p now : PassView Entry) (e : ReshardFault) → w1 ≡ record w { prepared = b }
     → IsSwitchRefusal o most w1.sources w1.targets p now e → IsSwitchRefusal o most w.sources w.targets p now e
 refused_as o most w w1 b p now e made h = subst (λ (v : WorkflowView). IsSwitchRefusal o most v.sources v.targets p now e) made h
+
+pub on_refusal : {X E : Type 0} (r : Result X E) (P : Type 0) → P → OnErr r P
+on_refusal (Ok x) P p = tt
+on_refusal (Err e) P p = p
 
 pub when_none : {X : Type 0} (o : Option X) (A : Type 0) (B : X → Type 0) → o ≡ None → MatchOption o A B → A
 when_none {X = X} o A B none h = subst (λ (x : Option X). MatchOption x A B) none h

@@ -15,7 +15,7 @@ use Rattle.reshard.specs.declared.cutover.CutoverStep.{CutoverStep}
 use Rattle.reshard.specs.declared.cutover.CutoverStep.TheVariants.{Release}
 use Rattle.reshard.specs.Workflows.{WorkflowView}
 use Rattle.reshard_create.specs.TargetSources.{TargetWithSources}
-use Rattle.reshard.specs.Cutover.{IsFurther, HasFinished, HasSwitched, HasSwitchedOn, HasSwitchedToTheEnd, HasStopped, HasStoppedLater, MaySwitch}
+use Rattle.reshard.specs.Cutover.{IsFurther, HasFinished, HasSwitched, HasSwitchedOn, HasSwitchedToTheEnd, HasStopped, HasStoppedShort, HasStoppedLater, MaySwitch}
 use Rattle.reshard_create.specs.Looks.{IsCutOver, slots_of_both}
 use Rattle.reshard_create.specs.Turns.{HasLookedAt}
 use Rattle.reshard_create.proofs.Onward.{onward_trans}
@@ -117,10 +117,10 @@ stopped_later o most w mid now p before q e far on is = record { mid = mid; furt
 
 pub refused_later : (o : Opening) (most : Limits) (w mid now : WorkflowView) (p before q : PassView Entry) (e : ReshardFault) → IsFurther w mid
     → MaySwitch mid → IsOnward o p before
-    → ((e ≡ WrongState) × (MaySwitch mid → ⊥) × (now ≡ mid) × (q ≡ before)) ⊎ (MaySwitch mid × HasStopped o most mid now before q e)
+    → ((e ≡ WrongState) × (MaySwitch mid → ⊥) × (now ≡ mid) × (q ≡ before)) ⊎ (MaySwitch mid × HasStoppedShort o most mid now before q e)
     → HasStoppedLater o most w now p q e
 refused_later o most w mid now p before q e far may on (inl h) = absurd (h.1 may)
-refused_later o most w mid now p before q e far may on (inr h) = stopped_later o most w mid now p before q e far on h.1
+refused_later o most w mid now p before q e far may on (inr h) = stopped_later o most w mid now p before q e far on h.1.stopped
 
 -- a cutover that stopped after the targets came level
 pub stopped_since : (o : Opening) (most : Limits) (w now : WorkflowView) (p since q : PassView Entry) (e : ReshardFault) → IsOnward o p since

@@ -1,5 +1,5 @@
 -- What the steps of a cutover do to a workflow and to what the controller's pass has seen.
-use Rattle.std.specs.Prelude.{◌≡◌, ℕ, ◌⊎◌, ◌≤◌, ◌+◌, ◌^◌, ◌∷◌, [], true, false, List, length, Contains, Some, slice_get, slice_set}
+use Rattle.std.specs.Prelude.{◌≡◌, ℕ, ◌⊎◌, ◌≤◌, ◌+◌, ◌^◌, ◌∷◌, [], true, false, List, length, map, Contains, Some, slice_get, slice_set}
 use Rattle.std.specs.List.{AllByRecursion}
 use Rattle.vt_value.specs.declared.refusal.Refusal.TheVariants.{OutOfMemory, ShardFull}
 use Rattle.journal.specs.Views.{PassView}
@@ -9,7 +9,7 @@ use Rattle.shard_run.specs.declared.Event.TheVariants as events
 use Rattle.shard_run.specs.Runs.{Opening, Run, entries_on, stored_on}
 use Rattle.reshard_create.specs.Limits.{Limits}
 use Rattle.reshard_create.specs.FollowSteps.{IsOnward, IsRunBetween, HasStepped, HasMovedWith, IsFull}
-use Rattle.reshard_create.specs.Turns.{EachInTurn, HasLookedAt}
+use Rattle.reshard_create.specs.Turns.{EachInTurn, HasLookedAt, IsCutShort}
 use Rattle.reshard_create.specs.Step.TheVariants as moves
 use Rattle.reshard_create.specs.ReshardFault.{ReshardFault}
 use Rattle.reshard_create.specs.ReshardFault.TheVariants.{Refused}
@@ -23,7 +23,7 @@ use Rattle.reshard_create.specs.Looks.{HasLookedOnlyAt, HasLookedForOneChange, H
 use Rattle.reshard.specs.Workflows.{WorkflowView}
 use Rattle.reshard_create.specs.TargetSources.{TargetWithSources, shards_of}
 use Rattle.reshard_create.specs.Step.{Step}
-use Rattle.reshard_create.specs.FirstMoves.{HasMovedFirst, IsOneStepFirst}
+use Rattle.reshard_create.specs.FirstMoves.{HasMovedFirst, IsOneStepFirst, IsNoStepFirst}
 
 -- a cutover goes on while targets follow, or it has begun
 abbrev pub MaySwitch : WorkflowView → Type 0
@@ -73,7 +73,7 @@ pub data HasSwitched (o : Opening) (w : WorkflowView) (now : WorkflowView) (p q 
 -- before the first retirement the pass looks at targets and their sources, as a step does that finds all level, and then once at each target
 abbrev pub HasFoundReady : WorkflowView → PassView Entry → PassView Entry → Type 0
 HasFoundReady w p m =
-    (l : PassView Entry) × IsOneStepFirst w.targets p l moves.Level × EachInTurn (λ (t : TargetWithSources). HasLookedAt (t.0.slot ∷ [])) w.targets l m
+    (l : PassView Entry) × IsOneStepFirst w.targets p l moves.Level × HasLookedAt (map (λ t. t.0.slot) w.targets) l m
 
 -- The steps from the first retirement on: the pass looks at the source that retires alone, and changes its mode once; or at the sources, one after the
 -- other, and then so at the target that serves; or nowhere.
@@ -181,6 +181,20 @@ pub record HasStopped (o : Opening) (most : Limits) (w now : WorkflowView) (p q 
   pub onward : IsOnward o p at
   pub cause : IsSwitchRefusal o most w.sources w.targets p at e
   pub given_up : HasGivenUp o w now at q
+
+-- What a step of a cutover does that is refused, before it gives the cutover up: nothing; or it looks once at the next source to freeze; or it is a
+-- step of a target that is refused; or it finds all targets level, and then looks once at each, up to one that has too many rows.
+pub data HasComeTo (w : WorkflowView) (p : PassView Entry) : PassView Entry → Type 0 where
+  unprepared : HasComeTo w p p
+  unfrozen : {at : PassView Entry} (s : ShardRecord) → slice_get w.sources w.frozen ≡ Some s → HasLookedAt (s.slot ∷ []) p at → HasComeTo w p at
+  unmoved : {at : PassView Entry} → IsNoStepFirst w.targets p at → HasComeTo w p at
+  unfit : {at : PassView Entry} (l : PassView Entry) → IsOneStepFirst w.targets p l moves.Level → IsCutShort (map (λ t. t.0.slot) w.targets) l at
+      → HasComeTo w p at
+
+-- a step of a cutover stopped, having done no more than that, and then the cutover was given up
+pub record HasStoppedShort (o : Opening) (most : Limits) (w now : WorkflowView) (p q : PassView Entry) (e : ReshardFault) : Type 0 where
+  pub stopped : HasStopped o most w now p q e
+  pub short : HasComeTo w p stopped.at
 
 -- the same workflow, whose cutover may have gone on
 abbrev pub IsFurther : WorkflowView → WorkflowView → Type 0

@@ -2,7 +2,7 @@
 //! published.
 ghost use Rattle.shard_run.specs.declared.ShardRecord as which;
 ghost use Rattle.shard_run.specs.declared.Event.{Event};
-ghost use Rattle.std.specs.Prelude.{◌≡◌, ◌+◌, ◌<◌, true, false, Some, IfErr, OnOk, OnErr, Contains, length, slice_get, slice_set};
+ghost use Rattle.std.specs.Prelude.{◌≡◌, ◌+◌, ◌<◌, ◌∷◌, [], true, false, Some, IfErr, OnOk, OnErr, Contains, length, slice_get, slice_set};
 ghost use Rattle.std.specs.List.{AllByRecursion};
 ghost use Rattle.journal.specs.Runs.{IsLegal};
 ghost use Rattle.journal.specs.Views.{PassView};
@@ -13,7 +13,7 @@ ghost use Rattle.reshard_create.specs.FollowSteps.{IsOnward, HasStepped};
 ghost use Rattle.reshard_create.specs.Steps.{named_for};
 ghost use Rattle.reshard_create.specs.TargetSources.{TargetWithSources, shards_of};
 ghost use Rattle.reshard.specs.Cutover.{HasNoRoom};
-ghost use Rattle.reshard_create.specs.Turns.{EachInTurn};
+ghost use Rattle.reshard_create.specs.Turns.{EachInTurn, HasLookedAt};
 ghost use Rattle.reshard_create.specs.Looks.{HasLookedOnlyAt, HasLookedForOneChange, HasThawed, IsServingAgain};
 
 use crate::workflow::{Stage, Workflow};
@@ -85,6 +85,7 @@ impl<W: World, J: Naming> Workflow<W, J> {
             × (self.new.stored ≡ slice_set self.old.stored self.old.frozen (length (stored_on s.slot pass.new.seen)))) }
         ensures now { OnOk result (self.new ≡ record self.old { stage = Stage.Switching; frozen = self.old.frozen + 1; stored = self.new.stored }) }
         ensures same { OnErr result (self.new ≡ self.old) }
+        ensures looked { OnErr result ((s : which.ShardRecord) × (slice_get self.old.sources self.old.frozen ≡ Some s) × HasLookedAt (s.slot ∷ []) pass.old pass.new) }
         ensures err { IfErr result (λ e. (e ≡ Refusal.ShardFull) × ((s : which.ShardRecord) × Contains self.old.sources s × HasNoRoom s pass.old pass.new)) }
         ensures onward { IsOnward W.opening pass.old pass.new }
     {

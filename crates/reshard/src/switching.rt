@@ -4,7 +4,7 @@ ghost use Rattle.shard_run.specs.WellFormed.{is_vschema};
 ghost use Rattle.journal.specs.Runs.{IsLegal};
 ghost use Rattle.reshard_create.specs.Entries.{MayFollow};
 ghost use Rattle.reshard_create.specs.FollowSteps.{IsOnward};
-ghost use Rattle.reshard.specs.Cutover.{HasSwitched, HasFoundReady, EndsAlone, DoesNoMore, HasStopped, IsSwitchRefusal, MayRetireFirst, MaySwitch};
+ghost use Rattle.reshard.specs.Cutover.{HasSwitched, HasFoundReady, EndsAlone, DoesNoMore, HasComeTo, HasStoppedShort, IsSwitchRefusal, MayRetireFirst, MaySwitch};
 
 use crate::context::WorkflowContext;
 use crate::cutover::CutoverStep;
@@ -68,6 +68,7 @@ impl<W: World, J: Naming> Workflow<W, J> {
         ensures ready { IfOk result (λ r. MatchOption r (MayRetireFirst W.opening W.limits self.old pass.old pass.new) (λ step. step ≡ CutoverStep.Retire → ⊥)) }
         ensures steady { OnOk result (self.new ≡ record self.old { stage = self.new.stage; frozen = self.new.frozen; stored = self.new.stored; prepared = true }) }
         ensures refused { IfErr result (λ e. IsSwitchRefusal W.opening W.limits self.old.sources self.old.targets pass.old pass.new (ReshardFault.Refused e)) }
+        ensures short { OnErr result (HasComeTo self.old pass.old pass.new) }
         ensures same { OnErr result (self.new ≡ record self.old { prepared = self.new.prepared }) }
         ensures onward { IsOnward W.opening pass.old pass.new }
     {
@@ -106,6 +107,7 @@ impl<W: World, J: Naming> Workflow<W, J> {
         ensures ready { IfOk result (λ step. step ≡ CutoverStep.Retire → self.old.retired ≡ 0 → MayRetireFirst W.opening W.limits self.old pass.old pass.new) }
         ensures refused { IfErr result (λ e. IsSwitchRefusal W.opening W.limits self.old.sources self.old.targets pass.old pass.new (ReshardFault.Refused e)) }
         ensures none { OnErr result (self.old.retired ≡ 0) }
+        ensures short { OnErr result (HasComeTo self.old pass.old pass.new) }
         ensures same { OnErr result (self.new ≡ record self.old { prepared = self.new.prepared }) }
         ensures onward { IsOnward W.opening pass.old pass.new }
     {
@@ -137,7 +139,9 @@ impl<W: World, J: Naming> Workflow<W, J> {
     // more than it returns: one that moves a target is one step of it, as `step` takes it; one that freezes or retires a source, or has a target
     // serve, ends with three looks at that shard alone, so its mode changes once, and before them it looked only at targets and their sources, as a
     // step does that finds all level, and once at each target, or at sources that are retired; and the others look nowhere. The first source retires
-    // only if the workflow has frozen all, and the step found each target level, and then with no more rows than a shard that serves may have
+    // only if the workflow has frozen all, and the step found each target level, and then with no more rows than a shard that serves may have. A step
+    // that is refused has looked nowhere, or once at the next source to freeze, or as a step of targets does that is refused or that finds all level,
+    // and then once at each target, before it gives the cutover up
     /// Takes the next step of the cutover, and returns which: the next source is frozen; once all are, the first target moves that isn't level,
     /// else the next source is retired; then the targets serve, the next partition is published, and the statements that waited go on.
     /// Refuses if no targets follow and no cutover has begun. For want of memory, and if a shard would have more rows or entries than
@@ -159,7 +163,7 @@ impl<W: World, J: Naming> Workflow<W, J> {
         ensures once { IfOk result (DoesNoMore self.old pass.old pass.new) }
         ensures ready { IfOk result (λ step. step ≡ CutoverStep.Retire → self.old.retired ≡ 0 → MayRetireFirst W.opening W.limits self.old pass.old pass.new) }
         ensures refused { IfErr result (λ e. ((e ≡ ReshardFault.WrongState) × (MaySwitch self.old → ⊥) × (self.new ≡ self.old) × (pass.new ≡ pass.old))
-            ⊎ (MaySwitch self.old × HasStopped W.opening W.limits self.old self.new pass.old pass.new e)) }
+            ⊎ (MaySwitch self.old × HasStoppedShort W.opening W.limits self.old self.new pass.old pass.new e)) }
         ensures onward { IsOnward W.opening pass.old pass.new }
     {
         if !self.may_switch() {

@@ -1,8 +1,8 @@
 -- Sources serve again, one after the other.
-use Rattle.std.proofs.Common.{◌≡◌, ℕ, ◌+◌, ◌<◌, ◌≤◌, List, [], ◌∷◌, ◌++◌, length, map, take, get_or, refl, sym, ap, ◌∙◌, subst, true}
+use Rattle.std.proofs.Common.{◌≡◌, ℕ, ◌+◌, ◌<◌, ◌≤◌, List, [], ◌∷◌, ◌++◌, length, map, take, drop, get_or, refl, sym, ap, ◌∙◌, subst, true}
 use Rattle.std.specs.List.{AllByRecursion}
 use Rattle.std.proofs.lemmas.Bool.{eq-eqb}
-use Rattle.std.proofs.lemmas.List.{take_more, map-append}
+use Rattle.std.proofs.lemmas.List.{take_more, map-append, take-append-drop}
 use Rattle.journal.specs.Views.{PassView}
 use Rattle.journal.proofs.Fronts.{prefix_trans, prefix_self}
 use Rattle.shard_run.specs.declared.ShardRecord.{ShardRecord}
@@ -19,7 +19,7 @@ use Rattle.shard_contents.proofs.Lists.{all-weaker}
 use Rattle.shard_contents.specs.Entries.{ShardView, HasAppended}
 use Rattle.follow.specs.Modes.{HasChangedMode}
 use Rattle.follow.specs.Steps.{IsOnward}
-use Rattle.follow.specs.Turns.{HasLookedAt}
+use Rattle.follow.specs.Turns.{HasLookedAt, EndsInLook, IsCutShort}
 use Rattle.follow.proofs.Turns.{unlooked, looked_at, looked_then, appended_since}
 use Rattle.reshard_cutover.specs.Looks.{HasLookedOnlyAt, IsServingAgain, IsOutOfUse, IsWithinRows}
 use Rattle.reshard_cutover.proofs.Retiring.{all_map_next}
@@ -104,6 +104,23 @@ module _ {S X : Type 0} (which : S → X) (slot : X → ℕ) (shards : List S) (
       (subst (λ (l : List X). HasLookedAt (map slot l) p now) (sym (map-append which (take n shards) (s ∷ [])))
       (subst (λ (l : List ℕ). HasLookedAt l p now) (sym (map-append slot (map which (take n shards)) (which s ∷ [])))
       (looked_then (map slot (map which (take n shards))) (slot (which s) ∷ []) p q now before at)))
+
+  -- at the first ones, as far as the pass came
+  pub looked_along : HasLookedAt (map slot (map which (take n shards))) p q → HasLookedAt (slot (which s) ∷ []) q now → EndsInLook now
+      → IsCutShort (map slot (map which shards)) p now
+  looked_along before at ends =
+      let first = take (n + 1) shards in
+      let rest = drop (n + 1) shards in
+      record {
+        first = map slot (map which first);
+        part = (
+          map slot (map which rest),
+          sym (map-append slot (map which first) (map which rest))
+              ∙ ap (map slot) (sym (map-append which first rest) ∙ ap (map which) (take-append-drop (n + 1) shards)),
+        );
+        looked = look_next_of before at;
+        ends = ends;
+      }
 
 -- the two looks before a change of mode
 pub change_looks : (o : Opening) (slot : ℕ) (v : ShardView) (ev : Event) (p now : PassView Entry) → v.shard.slot ≡ slot → HasChangedMode o v ev p now

@@ -6,7 +6,7 @@ ghost use Rattle.shard_run.specs.Runs.{shard_rows};
 ghost use Rattle.shard_run.specs.Openings.{row_count};
 ghost use Rattle.shard_contents.specs.Entries.{MayFollow};
 ghost use Rattle.follow.specs.Steps.{IsOnward};
-ghost use Rattle.follow.specs.Turns.{EachInTurn, HasLookedAt};
+ghost use Rattle.follow.specs.Turns.{HasLookedAt, EndsInLook, IsCutShort};
 ghost use Rattle.reshard_cutover.specs.TargetSources.{TargetWithSources};
 ghost use Rattle.reshard_cutover.specs.Looks.{IsOverfull, IsWithinRows};
 
@@ -25,6 +25,7 @@ fn fits<W: World, J: Naming>(
     ensures many { result ≡ false → W.limits.rows < row_count (shard_rows W.opening pass.new.seen member.now.which) }
     ensures few { result ≡ true → row_count (shard_rows W.opening pass.new.seen member.now.which) ≤ W.limits.rows }
     ensures looked { HasLookedAt (member.now.which.slot ∷ []) pass.old pass.new }
+    ensures ends { EndsInLook pass.new }
     ensures onward { IsOnward W.opening pass.old pass.new }
 {
     let mut state = member
@@ -46,7 +47,8 @@ pub fn all_fit<W: World, J: Naming>(
     requires legal { IsLegal (MayFollow W.opening) pass.old.seen }
     ensures many { result ≡ false → (t : TargetWithSources) × Contains (map (λ t. (t.member.which, map (λ s. s.which) t.sources.items)) targets.now) t × IsOverfull W.opening W.limits t.0 pass.old pass.new }
     ensures few { result ≡ true → AllByRecursion (λ t. IsWithinRows W.opening W.limits t.0 pass.old pass.new) (map {B = TargetWithSources} (λ t. (t.member.which, map (λ s. s.which) t.sources.items)) targets.now) }
-    ensures looked { result ≡ true → EachInTurn (λ t. HasLookedAt (t.0.slot ∷ [])) (map {B = TargetWithSources} (λ t. (t.member.which, map (λ s. s.which) t.sources.items)) targets.now) pass.old pass.new }
+    ensures looked { result ≡ true → HasLookedAt (map (λ t. t.0.slot) (map {B = TargetWithSources} (λ t. (t.member.which, map (λ s. s.which) t.sources.items)) targets.now)) pass.old pass.new }
+    ensures short { result ≡ false → IsCutShort (map (λ t. t.0.slot) (map {B = TargetWithSources} (λ t. (t.member.which, map (λ s. s.which) t.sources.items)) targets.now)) pass.old pass.new }
     ensures onward { IsOnward W.opening pass.old pass.new }
 {
     for target in targets {

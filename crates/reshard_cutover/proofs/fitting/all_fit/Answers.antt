@@ -1,11 +1,10 @@
-use Rattle.std.proofs.Common.{◌∷◌, [], map, sym, subst}
+use Rattle.std.proofs.Common.{map, refl, sym, subst}
 use Rattle.journal.proofs.Fronts.{prefix_self}
 use Rattle.reshard_cutover.proofs.Onward.{still, onward_trans}
-use Rattle.reshard_cutover.proofs.Thaws.{within_next}
+use Rattle.reshard_cutover.proofs.Thaws.{within_next, look_next_of, looked_along}
 use Rattle.reshard_cutover.specs.TargetSources.{TargetWithSources}
-use Rattle.follow.specs.Turns as turns
 use Rattle.follow.specs.Turns.{HasLookedAt}
-use Rattle.follow.proofs.Turns.{one_more_turn, all_took_turns}
+use Rattle.follow.proofs.Turns.{unlooked}
 use Rattle.reshard_cutover.specs.Looks.{IsWithinRows}
 use Rattle.shard_contents.proofs.Progress.{take_whole}
 use Rattle.std.specs.List.{AllByRecursion}
@@ -36,7 +35,7 @@ returns-then-not-fits-clause-onward g c =
     onward_trans g.W.World.opening c.args.pass.now c.loop-target.pass c.fits.new.pass c.loop-target.invariant.onward c.fits.ensures.onward
 
 pub loop-target-init : goal.loop-target-init
-loop-target-init g c = record { onward = still g.W.World.opening c.args.pass.now c.requires.legal; few = tt; looked = turns.none }
+loop-target-init g c = record { onward = still g.W.World.opening c.args.pass.now c.requires.legal; few = tt; looked = unlooked c.args.pass.now c.args.pass.now refl }
 
 pub loop-target-preserved : goal.loop-target-preserved
 loop-target-preserved g c =
@@ -49,9 +48,8 @@ loop-target-preserved g c =
           c.args.targets.now c.loop-target.target-index c.target-item.result c.loop-target-test.true c.target-item.is c.loop-target.invariant.onward
           c.fits.ensures.onward (c.fits.ensures.few c.if-not-fits.false) c.loop-target.invariant.few;
       looked =
-          one_more_turn {X = TargetWithSources} (λ t. (t.member.which, map (λ s. s.which) t.sources.items)) c.args.targets.now c.loop-target.target-index c.target-item.result
-          c.loop-target-test.true c.target-item.is (λ t. HasLookedAt (t.0.slot ∷ [])) p c.loop-target.pass c.fits.new.pass c.loop-target.invariant.looked
-          c.fits.ensures.looked;
+          look_next_of (λ t. (t.member.which, map (λ s. s.which) t.sources.items)) (λ (t : TargetWithSources). t.0.slot) c.args.targets.now c.loop-target.target-index
+          c.target-item.result c.loop-target-test.true c.target-item.is p c.loop-target.pass c.fits.new.pass c.loop-target.invariant.looked c.fits.ensures.looked;
     }
 
 pub returns-clause-onward : goal.returns-clause-onward
@@ -65,5 +63,11 @@ returns-clause-few g c e =
 
 pub returns-clause-looked : goal.returns-clause-looked
 returns-clause-looked g c e =
-    all_took_turns {X = TargetWithSources} (λ t. (t.member.which, map (λ s. s.which) t.sources.items)) c.args.targets.now c.loop-target.target-index c.loop-target-test.false
-    (λ t. HasLookedAt (t.0.slot ∷ [])) c.args.pass.now c.loop-target.pass c.loop-target.invariant.looked
+    subst (λ l. HasLookedAt (map (λ (t : TargetWithSources). t.0.slot) (map {B = TargetWithSources} (λ t. (t.member.which, map (λ s. s.which) t.sources.items)) l))
+    c.args.pass.now c.loop-target.pass) (take_whole c.loop-target.target-index c.args.targets.now c.loop-target-test.false) c.loop-target.invariant.looked
+
+pub returns-then-not-fits-clause-short : goal.returns-then-not-fits-clause-short
+returns-then-not-fits-clause-short g c e =
+    looked_along (λ t. (t.member.which, map (λ s. s.which) t.sources.items)) (λ (t : TargetWithSources). t.0.slot) c.args.targets.now c.loop-target.target-index
+    c.target-item.result c.loop-target-test.true c.target-item.is c.args.pass.now c.loop-target.pass c.fits.new.pass c.loop-target.invariant.looked c.fits.ensures.looked
+    c.fits.ensures.ends

@@ -1,8 +1,8 @@
-use Rattle.std.proofs.Common.{◌∷◌, [], map, take}
+use Rattle.std.proofs.Common.{map, take}
 use Rattle.std.specs.List.{AllByRecursion}
 use Rattle.follow.specs.Steps.{IsOnward}
 use Rattle.reshard_cutover.specs.TargetSources.{TargetWithSources}
-use Rattle.follow.specs.Turns.{EachInTurn, HasLookedAt}
+use Rattle.follow.specs.Turns.{HasLookedAt}
 use Rattle.reshard_cutover.specs.Looks.{IsWithinRows}
 use Rattle.reshard_cutover.proofs.fitting.all_fit.Given as goal
 
@@ -15,6 +15,6 @@ invariant-loop-target g l =
           AllByRecursion (λ t. IsWithinRows g.W.World.opening g.W.World.limits t.0 l.fn.pass l.pass)
           (map {B = TargetWithSources} (λ t. (t.member.which, map (λ s. s.which) t.sources.items)) (take l.target-index l.targets));
       looked :
-          EachInTurn (λ t. HasLookedAt (t.0.slot ∷ [])) (map {B = TargetWithSources} (λ t. (t.member.which, map (λ s. s.which) t.sources.items)) (take l.target-index l.targets))
+          HasLookedAt (map (λ t. t.0.slot) (map {B = TargetWithSources} (λ t. (t.member.which, map (λ s. s.which) t.sources.items)) (take l.target-index l.targets)))
           l.fn.pass l.pass;
     }

@@ -8,7 +8,7 @@ use Rattle.shard_run.specs.Openings.{row_count}
 use Rattle.shard_contents.specs.Entries.{ShardView}
 use Rattle.follow.proofs.LockedLooks.{LookedAs, looked_as, mode_here}
 use Rattle.follow.specs.Steps.{IsOnward}
-use Rattle.follow.proofs.Turns.{looked_at}
+use Rattle.follow.proofs.Turns.{looked_at, one_look}
 use Rattle.reshard_cutover.proofs.Onward.{looked_first}
 use Rattle.reshard_cutover.proofs.fitting.fits.Goals as goal
 use Rattle.reshard_cutover.proofs.fitting.fits.Goals.{After-deref-2}
@@ -58,6 +58,14 @@ pub returns-clause-looked : goal.returns-clause-looked
 returns-clause-looked g c =
     let b = (goal.at.returns-clause-looked g c).After-deref-2 in
     looked_at c.args.pass.now c.look.new.pass c.args.member.now.which.slot _ _ (seen g b).pass
+
+pub returns-clause-ends : goal.returns-clause-ends
+returns-clause-ends g c =
+    let b = (goal.at.returns-clause-ends g c).After-deref-2 in
+    let p = c.args.pass.now in
+    let now = c.look.new.pass in
+    let slot = c.args.member.now.which.slot in
+    record { slot = slot; before = p.looks; last = one_look p now slot c.look.new.self.seen (seen g b).pass }
 
 pub returns-clause-onward : goal.returns-clause-onward
 returns-clause-onward g c =

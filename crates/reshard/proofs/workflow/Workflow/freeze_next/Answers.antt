@@ -5,6 +5,7 @@ use Rattle.std.specs.Prelude.{slice_set}
 use Rattle.reshard.specs.Workflows.{WorkflowView}
 use Rattle.reshard.proofs.Nexts.{view_there, view_among, no_room_at}
 use Rattle.reshard_create.proofs.Residual.{residual_same}
+use Rattle.reshard.proofs.Switches.{on_refusal}
 use Rattle.reshard.proofs.workflow.Workflow.freeze_next.Goals as goal
 
 pub returns-in_err-stored-clause-err : goal.returns-in_err-stored-clause-err
@@ -19,6 +20,17 @@ returns-in_err-stored-clause-err g c =
             c.index-source.ensures,
         no_room_at g.W.World.opening s.member.which c.args.pass.now c.freeze.new.pass c.in_err-stored.ensures.onward c.in_err-stored.ensures.full.1,
       ),
+    )
+
+pub returns-in_err-stored-clause-looked : goal.returns-in_err-stored-clause-looked
+returns-in_err-stored-clause-looked g c =
+    let s = c.index-source.result.now in
+    on_refusal c.from_residual.result _ (
+      s.member.which,
+      view_there (λ s. s.member.which) c.args.self.now.sources c.args.self.now.frozen c.self.inside.sources.items c.self.inside.frozen s
+          (sym (ap (λ (w : WorkflowView). w.sources) c.self.view_is)) (sym (ap (λ (w : WorkflowView). w.frozen) c.self.view_is)) c.requires.some
+          c.index-source.ensures,
+      c.in_err-stored.ensures.refused,
     )
 
 pub returns-clause-froze : goal.returns-clause-froze

@@ -1,24 +1,25 @@
-use Rattle.std.proofs.Common.{◌≡◌, ◌∷◌, [], true, List, length, map, refl, sym, ap, ◌∙◌, subst, arith}
+use Rattle.std.proofs.Common.{◌≡◌, true, List, length, map, refl, sym, ap, ◌∙◌, subst, arith}
 use Rattle.std.proofs.lemmas.List.{length-map}
-use Rattle.std.specs.Prelude.{IfOk, IfErr, MatchOption, slice_get}
+use Rattle.std.specs.Prelude.{IfOk, IfErr, OnErr, MatchOption, slice_get}
 use Rattle.journal.proofs.Fronts.{prefix_self}
 use Rattle.vt_value.specs.declared.refusal.Refusal.{Refusal}
 use Rattle.vt_value.specs.declared.refusal.Refusal.TheVariants.{OutOfMemory, ShardFull}
 use Rattle.reshard_create.specs.Step.{Step}
 use Rattle.reshard_create.specs.ReshardFault.TheVariants.{Refused}
-use Rattle.reshard_create.specs.FirstMoves.{HasMovedFirst, IsMoveRefusal, IsOneStepFirst}
+use Rattle.reshard_create.specs.FirstMoves.{HasMovedFirst, IsMoveRefusal, IsOneStepFirst, IsNoStepFirst}
 use Rattle.reshard.specs.Workflows.{WorkflowView}
 use Rattle.reshard_create.specs.TargetSources.{TargetWithSources}
 use Rattle.reshard.specs.declared.cutover.CutoverStep.{CutoverStep}
 use Rattle.reshard.specs.declared.cutover.CutoverStep.TheVariants.{Retire}
 use Rattle.reshard_create.specs.Step.TheVariants.{Level}
 use Rattle.std.specs.List.{AllByRecursion}
-use Rattle.reshard_create.specs.Turns.{EachInTurn, HasLookedAt}
+use Rattle.reshard_create.specs.Turns.{HasLookedAt, IsCutShort}
 use Rattle.reshard_create.specs.Looks.{IsWithinRows}
-use Rattle.reshard.specs.Cutover.{IsSwitchRefusal, overfull, HasFoundReady, DoesNoMore, MayRetireFirst}
+use Rattle.reshard.specs.Cutover.{IsSwitchRefusal, overfull, HasFoundReady, DoesNoMore, HasComeTo, MayRetireFirst}
+use Rattle.reshard.specs.Cutover as cut
 use Rattle.reshard.proofs.Nexts.{from_move, refusal_within}
 use Rattle.reshard_create.proofs.Residual.{residual_same}
-use Rattle.reshard.proofs.Switches.{froze_after, copied_after, followed_after, memory_refused, room_refused, refused_as, may_retire}
+use Rattle.reshard.proofs.Switches.{froze_after, copied_after, followed_after, memory_refused, room_refused, refused_as, on_refusal, may_retire}
 use Rattle.reshard.proofs.workflow.Workflow.switch_before.Goals.{then-all_fit, else-all_fit}
 use Rattle.reshard.proofs.workflow.Workflow.switch_before.Goals as goal
 
@@ -137,7 +138,7 @@ returns-clause-once g c =
           subst (λ r. IfOk r (λ r. MatchOption r (HasFoundReady w p now) (DoesNoMore w p now))) (sym w'.result-is) (
             q,
             level,
-            subst (λ (l : List TargetWithSources). EachInTurn (λ (t : TargetWithSources). HasLookedAt (t.0.slot ∷ [])) l q now) ts2 (c.all_fit.ensures.looked w'.if-all_fit.true),
+            subst (λ (l : List TargetWithSources). HasLookedAt (map (λ t. t.0.slot) l) q now) ts2 (c.all_fit.ensures.looked w'.if-all_fit.true),
           )
       | else-all_fit w' ↦ subst (λ r. IfOk r (λ r. MatchOption r (HasFoundReady w p now) (DoesNoMore w p now))) (sym w'.result-is) tt
     ]
@@ -191,4 +192,45 @@ returns-clause-ready g c =
           (subst (λ (l : List TargetWithSources). AllByRecursion (λ t. IsWithinRows o most t.0 q now) l) ts2 (c.all_fit.ensures.few w'.if-all_fit.true)) c.move_first.ensures.onward.later)
       | else-all_fit w' ↦
           subst (λ r. IfOk r (λ r. MatchOption r (MayRetireFirst o most w p now) (λ (step : CutoverStep). step ≡ Retire → ⊥))) (sym w'.result-is) tt
+    ]
+
+pub returns-in_err-prepare-clause-short : goal.returns-in_err-prepare-clause-short
+returns-in_err-prepare-clause-short g c = on_refusal c.from_residual.result (HasComeTo c.args.self.now c.args.pass.now c.args.pass.now) cut.unprepared
+
+pub returns-in_err-freeze_next-clause-short : goal.returns-in_err-freeze_next-clause-short
+returns-in_err-freeze_next-clause-short g c =
+    let h = c.in_err-freeze_next.ensures.looked in
+    on_refusal c.from_residual-in_err-freeze_next.result (HasComeTo c.args.self.now c.args.pass.now c.freeze_next.new.pass)
+    (cut.unfrozen h.0 (sym (ap (λ (v : WorkflowView). slice_get v.sources v.frozen) c.in_ok-prepare.ensures.now) ∙ h.1) h.2)
+
+pub returns-in_err-move_first-clause-short : goal.returns-in_err-move_first-clause-short
+returns-in_err-move_first-clause-short g c =
+    let p = c.args.pass.now in
+    let now = c.move_first.new.pass in
+    let ts =
+    ap (map {B = TargetWithSources} (λ t. (t.member.which, map (λ s. s.which) t.sources.items))) c.as_slice.ensures.value ∙ ap (λ (w : WorkflowView). w.targets) c.self.view_is
+    ∙ ap (λ (w : WorkflowView). w.targets) c.in_ok-prepare.ensures.now in
+    on_refusal c.from_residual-in_err-move_first.result (HasComeTo c.args.self.now p now)
+    (cut.unmoved (subst (λ (l : List TargetWithSources). IsNoStepFirst l p now) ts c.in_err-move_first.ensures.nothing))
+
+pub returns-clause-short : goal.returns-clause-short
+returns-clause-short g c =
+    let w = c.args.self.now in
+    let p = c.args.pass.now in
+    let q = c.move_first.new.pass in
+    let now = c.all_fit.new.pass in
+    let back = ap (λ (w : WorkflowView). w.targets) c.in_ok-prepare.ensures.now in
+    let ts =
+    ap (map {B = TargetWithSources} (λ t. (t.member.which, map (λ s. s.which) t.sources.items))) c.as_slice.ensures.value ∙ ap (λ (w : WorkflowView). w.targets) c.self.view_is ∙ back in
+    let ts2 =
+    ap (map {B = TargetWithSources} (λ t. (t.member.which, map (λ s. s.which) t.sources.items))) c.as_slice-2.ensures.value ∙ ap (λ (w : WorkflowView). w.targets) c.self.view_is
+    ∙ back in
+    let level = subst (λ (l : List TargetWithSources). IsOneStepFirst l p q Level) ts
+    (subst (λ (s : Step). IsOneStepFirst (map {B = TargetWithSources} (λ t. (t.member.which, map (λ s. s.which) t.sources.items)) c.as_slice.result.now) p q s)
+    c.in-Level.is c.in_ok-move_first.ensures.once) in
+    elim c.if-all_fit.branch [
+      | then-all_fit w' ↦ subst (λ r. OnErr r (HasComeTo w p now)) (sym w'.result-is) tt
+      | else-all_fit w' ↦
+          subst (λ r. OnErr r (HasComeTo w p now)) (sym w'.result-is)
+          (cut.unfit q level (subst (λ (l : List TargetWithSources). IsCutShort (map (λ t. t.0.slot) l) q now) ts2 (c.all_fit.ensures.short w'.if-all_fit.false)))
     ]
