@@ -35,10 +35,10 @@ use Rattle.admin.specs.Words.{status_text}
 abbrev pub AdministratorView : Type 0
 AdministratorView = Option WorkflowView
 
--- which ranges a status tells: in the midst of a cutover those of the shards that serve then, else those of some partition of the keyspace
+-- which ranges a status tells: if there is a workflow those of the shards that serve then, else those of some partition of the keyspace
 pub data AreStatusRanges (w : WorkflowView) (told : List KeyRange) : Type 0 where
-  cutover : w.stage ≡ stages.Switching → AreServed w told → AreStatusRanges w told
-  partition : (w.stage ≡ stages.Switching → ⊥) → (seats : List Seat) → IsPartition seats → AreOf w.keyspace seats → told ≡ ranges seats → AreStatusRanges w told
+  replacing : (w.stage ≡ stages.None → ⊥) → AreServed w told → AreStatusRanges w told
+  partition : w.stage ≡ stages.None → (seats : List Seat) → IsPartition seats → AreOf w.keyspace seats → told ≡ ranges seats → AreStatusRanges w told
 
 -- these ranges, in the order of their begins, and the stage
 pub record IsStatus (w : WorkflowView) (text : List ℕ) : Type 0 where

@@ -113,8 +113,8 @@ impl<W: World, J: Naming> Administrator<W, J> {
 
     // Promise: An admin line does exactly what its words ask for over the workflow of the sharded keyspace, and its answer says so: what
     // was done, which step was taken, or why not, by its number; other words are unknown and do nothing, and neither does a line that can't
-    // be read for want of memory. `status` lists the ranges of some partition of the keyspace, or, in the midst of a
-    // cutover, those of the shards that serve then, in their order, and how far the workflow is.
+    // be read for want of memory. `status` lists the ranges of the shards that serve then, if there is a workflow, else those of
+    // some partition of the keyspace, in their order, and how far the workflow is.
     // Without a sharded keyspace there is no workflow. The answer's line takes no memory, so that what was done is always answered
     // With: Administrator::answer, AdminReply::line
     /// Over the workflow of the sharded keyspace, or, without such a keyspace, none.

@@ -38,14 +38,14 @@ fn status_line(alloc: Global, serving: &[KeyRange], stage: Stage) -> Result<Vec<
     Ok(out)
 }
 
-// Whether a cutover is under way.
-fn is_switching(stage: Stage) -> bool
-    ensures yes { result ≡ true → stage ≡ Stage.Switching }
-    ensures no { result ≡ false → stage ≡ Stage.Switching → ⊥ }
+// Whether shards are being replaced.
+fn has_workflow(stage: Stage) -> bool
+    ensures yes { result ≡ true → stage ≡ Stage.None → ⊥ }
+    ensures no { result ≡ false → stage ≡ Stage.None }
 {
     match stage {
-        Stage::Switching => true,
-        _ => false,
+        Stage::None => false,
+        _ => true,
     }
 }
 
@@ -71,7 +71,7 @@ fn served_ranges<W: World, J: Naming>(
     requires home { serving.now ≡ workflow.now.keyspace }
     ensures ok { IfOk result (λ r. AreStatusRanges workflow.now r.items) }
 {
-    if is_switching(workflow.stage()) {
+    if has_workflow(workflow.stage()) {
         return workflow.served_ranges(alloc);
     }
     ranges_of(alloc, serving.current().parts())

@@ -1,5 +1,5 @@
 -- What a workflow is once it is made again from its shards.
-use Rattle.std.specs.Prelude.{◌≡◌, ◌==◌, ℕ, Bool, zero, suc, true, List}
+use Rattle.std.specs.Prelude.{◌≡◌, ◌==◌, ◌&&◌, ℕ, Bool, zero, suc, true, List, length}
 use Rattle.std.specs.List.{list_any}
 use Rattle.serving.specs.Partitions.{Seat}
 use Rattle.journal.specs.Views.{PassView}
@@ -19,12 +19,16 @@ stage_at (suc n) = stages.Switching
 abbrev pub has_any : List Seat → List Seat → Bool
 has_any parts seats = list_any (λ seat. list_any (λ part. part.0 == seat.0) parts) seats
 
--- The workflow is made again from the shards of these seats. The memory of its cutover is made, and the next partition was published if the
--- partition that it is found in has one of the targets.
+-- the next partition was published if the present one has a target, and all targets serve
+abbrev pub is_published : List Seat → List Seat → ℕ → Bool
+is_published parts into served = has_any parts into && served == length into
+
+-- The workflow is made again from the shards of these seats. The memory of its cutover is made, and the next partition was published if all
+-- targets serve, and the partition that it is found in has one of them.
 pub record IsReopened (o : Opening) (p now : PassView Entry) (from into : List Seat) (w next : WorkflowView) : Type 0 where
   pub parts : List Seat
   pub made : AreMadeAgain o p now w.keyspace parts from into next.sources next.targets next.frozen next.retired next.served
-  pub published : next.published ≡ has_any parts into
+  pub published : next.published ≡ is_published parts into next.served
   pub at : next ≡ record w {
     stage = stage_at next.frozen;
     sources = next.sources;

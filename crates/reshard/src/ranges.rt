@@ -1,4 +1,4 @@
-//! Which ranges are served in the midst of a cutover.
+//! Which ranges are served while there is a workflow.
 ghost use Rattle.std.specs.Prelude.{◌≡◌, ◌++◌, IfOk, OnOk, drop, map, take};
 ghost use Rattle.reshard.specs.Served.{AreServed};
 
@@ -71,7 +71,7 @@ fn ranges_of_both<W: World, J: Naming>(
 }
 
 impl<W: World, J: Naming> Workflow<W, J> {
-    // Promise: In the midst of a cutover the ranges that are served are those of the parts that stay, which with the targets make a partition
+    // Promise: While there is a workflow, the ranges that are served are those of the parts that stay, which with the targets make a partition
     // of the keyspace, of the sources that aren't retired, and of the targets that serve already
     /// The ranges of the shards that serve now, or are frozen: of the parts that the workflow leaves, of its sources that aren't retired, and
     /// of its targets that serve. Refuses for want of memory.

@@ -3,7 +3,7 @@ ghost use Rattle.std.specs.Prelude.{◌≡◌, ◌⊎◌, ◌++◌, false, IfErr
 ghost use Rattle.journal.specs.Runs.{IsLegal};
 ghost use Rattle.reshard_create.specs.Entries.{MayFollow};
 ghost use Rattle.reshard_create.specs.FollowSteps.{IsOnward};
-ghost use Rattle.reshard.specs.Reopened.{IsReopened, has_any, stage_at};
+ghost use Rattle.reshard.specs.Reopened.{IsReopened, has_any, is_published, stage_at};
 ghost use Rattle.reshard_create.specs.reopening.Rebuilt.{IsReopenRefusal};
 ghost use Rattle.reshard_create.specs.Looked.{slots_of, HasLookedAlong};
 ghost use Rattle.reshard_create.specs.Turns.{HasLookedAt};
@@ -37,6 +37,17 @@ fn has_any<W: World, J: Naming>(
     into.iter().any(|part| stands_on(part.slot(), parts))
 }
 
+// Whether the next partition was published, if so many targets serve and the present partition has these parts: it is published once all serve.
+fn is_published<W: World, J: Naming>(
+    parts: &[ShardReference<Shard<W, J>>],
+    into: &[ShardReference<Shard<W, J>>],
+    served: usize,
+) -> bool
+    ensures { result ≡ is_published parts.now into.now served }
+{
+    has_any(parts, into) && served == into.len()
+}
+
 // The next partition, unless it was published.
 fn unless_published<W: World, J: Naming>(
     published: bool,
@@ -52,7 +63,7 @@ impl<W: World, J: Naming> Workflow<W, J> {
     // Promise: A workflow that another controller stopped is made again from the shards of its sources and targets: with one look under
     // each lock, the first so many sources are retired, the next frozen and the others serve, the first so many targets serve and the
     // others follow, and so far it is; each target takes from the sources that overlap it, and those that are retired named it; the memory
-    // of the cutover is made; the next partition was published exactly when the present one has a target. Refused only if there is a
+    // of the cutover is made; the next partition was published exactly when each target serves and the present one has a target. Refused only if there is a
     // workflow already, if the shards found aren't those of one with the other parts of some partition, if each source is retired
     // and each target serves, or if no source is retired (N4), and for want of memory; then it stays as it was. That N4 is answered of
     // the last two only if a source's rows were dropped, and if the workflow was given up, is for tests
@@ -103,7 +114,7 @@ impl<W: World, J: Naming> Workflow<W, J> {
         self.retired = progress.retired;
         self.served = progress.served;
         self.named = taken.memory.named.into_iter();
-        self.published = has_any(parts, replacement.targets);
+        self.published = is_published(parts, replacement.targets, progress.served);
         self.next = unless_published(self.published, taken.memory.next);
         self.prepared = true;
         self.stage = stage_of(progress.frozen);
