@@ -23,7 +23,7 @@ fn all_printable(bytes: &[u8; 20]) -> [u8; 20]
 }
 
 // Promise: A connection is greeted by the salt of its number and the nonce, and its bytes are then the conversation, over any device
-// With: vtgate_serve::serve_connection
+// With: vtgate_clients::serve_connection
 /// The salt of the connection with the number: SHA-1 over the nonce and the number, as printable bytes.
 pub fn salt_of(nonce: &[u8], number: u64) -> [u8; 20]
     ensures { result ≡ salt_of nonce.now number }

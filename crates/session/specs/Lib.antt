@@ -10,3 +10,4 @@ pub use Rattle.route_engine.specs.Answer
 pub use Rattle.route_engine.specs.Reply
 pub use Rattle.route_engine.specs.Transactions
 pub use Rattle.route_engine.specs.Entries
+pub use Rattle.route_engine.specs.contracts.engine.Engine

@@ -10,7 +10,7 @@ pub use crate::conversation::{
     Access, ConnectionState, Device, DeviceFailed, End, Handshake, PendingLogin, Phase, Reader,
     SessionFault, Settings, Sink, Source, Turned, Writer,
 };
-pub use route_engine::ShownRows;
+pub use route_engine::{Engine, Gate, ShownRows};
 pub use serve_loop::serve;
 pub use session_core::{COMMAND_LIMIT, Core};
 pub use turns::Conversation;

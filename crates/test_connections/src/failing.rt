@@ -1,7 +1,7 @@
 //! Devices that fail.
 ghost use Rattle.std.specs.Prelude.{None};
 
-use session::conversation::{DeviceFailed, Sink, Source};
+use vtgate_serve::{DeviceFailed, Sink, Source};
 
 /// A source that fails once its bytes are read.
 #[derive(Drop)]

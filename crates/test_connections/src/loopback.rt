@@ -4,7 +4,7 @@ ghost use Rattle.std.specs.Prelude.{◌≡◌, IsTrue, IfSome};
 ghost use Rattle.std.specs.List.{AllByRecursion};
 ghost use Rattle.keyrange.specs.Names.{IsNamed};
 ghost use Rattle.vschema.specs.WellFormed.{is_vschema};
-ghost use Rattle.session.specs.Entries.{most_limits};
+ghost use Rattle.vtgate_serve.specs.Entries.{most_limits};
 ghost use Rattle.shard_run.specs.opening.Empty.{opening_of, FitRanges};
 
 use crate::passwords::{ASKED_WITH_PASSWORD, try_passwords};
@@ -12,7 +12,6 @@ use journal::{Naming, Opened};
 use keyrange::KeyRange;
 use log::sink::Discard;
 use log::{LevelFilter, Logged};
-use session::Writer;
 use shard_run::opening::ranges_fit;
 use std::alloc::Global;
 use std::io::{Read, Write};
@@ -27,7 +26,7 @@ use test_fields::Unanswered;
 use vschema::VSchema;
 use vt_value::Refusal;
 use vtgate_serve::setup::ServeArgs;
-use vtgate_serve::{Gate, Ports, ServeConfig, ShardLaw, World, config_of, serve_opened};
+use vtgate_serve::{Gate, Ports, ServeConfig, ShardLaw, World, Writer, config_of, serve_opened};
 
 /// The sharded keyspace `shop` with the table t.
 const SHOP: &str =

@@ -2,7 +2,6 @@
 use crate::failing::{FailingSink, FailingSource};
 use log::sink::Discard;
 use log::{LevelFilter, Logged};
-use session::{Reader, Sink, Source, Writer};
 use std::alloc::Global;
 use std::net::{Net, TcpListener, TcpStream};
 use std::sync::Wait;
@@ -10,9 +9,9 @@ use std::thread::Threads;
 use std::time::Clock;
 use test_fields::{CaseAnswer, Unanswered, fields, text_of};
 use vschema::Hashing;
-use vtgate_serve::run_serve;
 use vtgate_serve::script::{run_plan, run_script};
 use vtgate_serve::setup::Word;
+use vtgate_serve::{Reader, Sink, Source, Writer, run_serve};
 
 fn push_words(alloc: Global, words: &mut Vec<Word>, field: &str) -> Result<(), Unanswered> {
     for word in field.split('\t') {

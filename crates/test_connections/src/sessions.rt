@@ -2,15 +2,14 @@
 ghost use Rattle.std.specs.Prelude.{◌≡◌, None, IsSome, IsTrue, IfOk};
 ghost use Rattle.keyrange.specs.Names.{IsNamed};
 ghost use Rattle.vschema.specs.WellFormed.{is_vschema};
-ghost use Rattle.session.specs.Entries.{most_limits};
-ghost use Rattle.session.specs.Pendings.{IsOf};
+ghost use Rattle.vtgate_serve.specs.Entries.{most_limits};
+ghost use Rattle.vtgate_serve.specs.Pendings.{IsOf};
 ghost use Rattle.shard_run.specs.opening.Empty.{opening_of, FitRanges};
 
 use crate::devices::InterruptedReader;
 use crate::failing::{FailingSink, FailingSource};
 use journal::{Naming, Opened, Opener};
 use keyrange::KeyRange;
-use session::{Access, Core, End, Reader, SessionFault, Sink, Source, Writer, serve};
 use shard_run::opening::ranges_fit;
 use std::alloc::Global;
 use std::marker::Brand;
@@ -19,7 +18,10 @@ use std::thread::Threads;
 use vschema::VSchema;
 use vt_value::{Items, Refusal};
 use vtgate_serve::router::{empty_router, widest_limits};
-use vtgate_serve::{Engine, Open, ShardLaw, ShardPass, World};
+use vtgate_serve::{
+    Access, Core, End, Engine, Open, Reader, SessionFault, ShardLaw, ShardPass, Sink, Source,
+    World, Writer, serve,
+};
 
 /// One unsharded keyspace with the table t.
 const SHOP: &str =

@@ -1,11 +1,11 @@
 //! What a client's bytes, and devices that fail, make of a session.
 use crate::sessions::{Beginning, Device, Ended, Fed, Talk, serve_in_shop};
-use session::{Access, End, SessionFault, Writer};
 use std::alloc::Global;
 use std::sync::Wait;
 use std::thread::Threads;
 use test_fields::{CaseAnswer, Unanswered, fields, salt_of, stage2_of, text_of};
 use vt_value::{Items, Refusal};
+use vtgate_serve::{Access, End, SessionFault, Writer};
 
 fn name_of(ended: Ended) -> &'static str {
     match ended {

@@ -1,8 +1,8 @@
 -- Words that ask for a plan or a script are what the code tests them to be.
 use Rattle.std.proofs.Common.{◌≡◌, ℕ, List, [], ◌∷◌, Bool, true, ◌&&◌, Some, is_some, bytes_eq, codes, map, ap}
 use Rattle.std.proofs.lemmas.Slice.Eq.{bytes_eq-Decides}
-use Rattle.vtgate_serve.specs.declared.setup.word.Word.{Word}
-use Rattle.vtgate_serve.specs.setup.Words.{word_bytes, word_text}
+use Rattle.vtgate_serve.specs.Word.{Word}
+use Rattle.vtgate_serve.specs.Words.{word_bytes, word_text}
 use Rattle.vtgate_main.specs.Words.{AsksPlan, AsksScript, is_plan, is_script}
 
 both : (a b : Bool) → a ≡ true → b ≡ true → (a && b) ≡ true

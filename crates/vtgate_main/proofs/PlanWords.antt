@@ -1,8 +1,8 @@
 -- Two or three words, by their places.
 use Rattle.std.proofs.Common.{◌≡◌, ℕ, List, [], ◌∷◌, length, get_or, map, Some, sym, ap, ◌∙◌, arith}
-use Rattle.vtgate_serve.specs.declared.setup.word.Word.{Word}
-use Rattle.vtgate_serve.specs.declared.setup.word.Word.TheVariants.{Text, Bytes}
-use Rattle.vtgate_serve.specs.setup.Words.{word_bytes, word_text}
+use Rattle.vtgate_serve.specs.Word.{Word}
+use Rattle.vtgate_serve.specs.Word.TheVariants.{Text, Bytes}
+use Rattle.vtgate_serve.specs.Words.{word_bytes, word_text}
 
 three : {X : Type 0} (words : List X) (a b c : X) → length words ≡ 3 → a ≡ get_or words 0 a → b ≡ get_or words 1 b → c ≡ get_or words 2 c
     → words ≡ a ∷ b ∷ c ∷ []

@@ -1,7 +1,7 @@
 -- The words of the command line.
 use Rattle.std.specs.Prelude.{◌≡◌, ℕ, Bool, ◌&&◌, List, [], ◌∷◌, map, codes, bytes_eq, is_some, false, Option, Some}
-use Rattle.vtgate_serve.specs.declared.setup.word.Word.{Word}
-use Rattle.vtgate_serve.specs.setup.Words.{word_bytes, word_text}
+use Rattle.vtgate_serve.specs.Word.{Word}
+use Rattle.vtgate_serve.specs.Words.{word_bytes, word_text}
 
 -- `plan`, the word of the shards, which is UTF-8, and a statement, which may be any bytes
 abbrev pub is_plan : List Word → Bool

@@ -1,8 +1,8 @@
 //! The words of the command line, and what they run.
 ghost use Rattle.std.specs.Prelude.{◌≡◌, ◌≢◌, ◌≤◌, ℕ, List, false, IfSome, IfNone, bytes_eq};
-ghost use Rattle.vtgate_serve.specs.setup.ServeArgs.{ServeArgsView, IsServeCommand};
-ghost use Rattle.vtgate_serve.specs.setup.Words.{word_bytes};
-ghost use Rattle.vtgate_serve.specs.setup.Statuses.{IsWrong, TellsNone};
+ghost use Rattle.vtgate_serve.specs.ServeArgs.{ServeArgsView, IsServeCommand};
+ghost use Rattle.vtgate_serve.specs.Words.{word_bytes};
+ghost use Rattle.vtgate_serve.specs.Statuses.{IsWrong, TellsNone};
 ghost use Rattle.vtgate_main.specs.Words.{AsksPlan, AsksScript, is_plan, is_script};
 ghost use Rattle.vtgate_serve.specs.script.Planned.{HasPlanned};
 ghost use Rattle.vtgate_serve.specs.script.Scripted.{HasScripted};

@@ -9,7 +9,7 @@ use Rattle.shard_run.specs.Runs.{Opening}
 use Rattle.shard_law.specs.declared.limits.Limits.{Limits}
 use Rattle.vtgate_lines.specs.Lines.{HasNoEnd, is_inner}
 use Rattle.vtgate_lines.specs.Printed.{line}
-use Rattle.session.specs.conversation.Devices.{AppendsFront}
+use Rattle.vtgate_clients.specs.Devices.{AppendsFront}
 use Rattle.admin.specs.declared.reply.AdminReply.{AdminReply}
 use Rattle.admin.specs.AdminAnswers.{IsAdminReply}
 use Rattle.admin.specs.Words.{reply_text}

@@ -1,8 +1,10 @@
 pub mod Served
-pub mod Accepted
-pub mod Admitted
 pub mod Conversations
-pub mod inner
-pub mod setup
 pub mod script
 pub use Rattle.vtgate_lines.specs.Partitions
+pub use Rattle.vtgate_clients.specs.setup.ServeArgs
+pub use Rattle.vtgate_clients.specs.setup.Words
+pub use Rattle.vtgate_clients.specs.setup.Statuses
+pub use Rattle.vtgate_clients.specs.Entries
+pub use Rattle.vtgate_clients.specs.Pendings
+pub use Rattle.vtgate_clients.specs.declared.setup.word.Word

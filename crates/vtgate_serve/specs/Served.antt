@@ -6,7 +6,7 @@ use Rattle.vschema.specs.declared.schema.VSchema.{VSchema}
 use Rattle.shard_run.specs.opening.Empty.{FitRanges}
 use Rattle.vtgate_lines.specs.Partitions.{NamesPartition}
 use Rattle.vtgate_lines.specs.Printed.{line}
-use Rattle.vtgate_serve.specs.setup.Inputs.{Known, HasDeclared}
+use Rattle.vtgate_clients.specs.setup.Inputs.{Known, HasDeclared}
 
 abbrev pub listening_text : List ℕ
 listening_text = line (codes "listening")

@@ -5,23 +5,21 @@ ghost use Rattle.std.specs.Io.KnownBytes.{Appends, Consumes, IsAtEnd};
 ghost use Rattle.shard_run.specs.opening.Empty.{sharded_keyspace};
 ghost use Rattle.vtgate_lines.specs.Lines.{HasNoEnd};
 ghost use Rattle.vtgate_lines.specs.Printed.{line};
-ghost use Rattle.session.specs.conversation.Devices.{AppendsFront};
+ghost use Rattle.vtgate_clients.specs.Devices.{AppendsFront};
 ghost use Rattle.admin.specs.declared.reply.AdminReply.{AdminReply};
 ghost use Rattle.admin.specs.AdminAnswers.{IsAdminReply, keyspace_of};
 ghost use Rattle.admin.specs.Words.{reply_text};
 ghost use Rattle.vtgate_serve.specs.Conversations.{AllAnswered, BreaksOff, HasEndedEarly, HasAnsweredAll, is_word_byte};
 
-use crate::census::Marks;
 use crate::lines::ended_line;
-use crate::{census, events};
 use admin::{Administrator, Engine, Gate, administer, work_left};
 use journal::Naming;
 use log::Log;
-use session::{Sink, Source};
-use shard::{ShardPass, World};
 use std::alloc::Global;
 use std::sync::Wait;
 use std::time::{Clock, Instant};
+use vtgate_clients::census::Marks;
+use vtgate_clients::{ShardPass, Sink, Source, World, census, events};
 
 /// The most bytes of a line, without the byte 0A that ends it.
 pub const LONGEST_LINE: usize = 8192;
@@ -101,7 +99,7 @@ fn tell_left<W: World + Send + Sync, J: Naming + Send + Sync, G: Gate, R: Wait +
     }
     let left = work_left(rt, engine, administrator);
     if left.copying > 0 || left.entries > 0 {
-        events::not_level(rt, left);
+        events::not_level(rt, left.copying, left.entries);
     }
 }
 

@@ -5,20 +5,17 @@ ghost use Rattle.shard_run.specs.opening.Empty.{sharded_keyspace};
 ghost use Rattle.admin.specs.AdminAnswers.{keyspace_of};
 
 use crate::admin_client::talk;
-use crate::progress::ServeProgress;
-use crate::server::Server;
 use crate::waits::is_made_again;
 use admin::{Administrator, Gate};
 use buffer::Buffer;
 use journal::Naming;
 use log::Log;
-use session::{DeviceFailed, Sink, Source};
-use shard::{ShardPass, World};
 use std::io::{Read, Write};
 use std::net::{TcpListener, TcpStream};
 use std::sync::{Mutex, Wait};
 use std::thread;
 use std::time::{Clock, Duration};
+use vtgate_clients::{DeviceFailed, ServeProgress, Server, ShardPass, Sink, Source, World};
 
 /// How long it sleeps between two looks for a client, in milliseconds.
 const BETWEEN_LOOKS: u64 = 20;

@@ -5,40 +5,26 @@ ghost use Rattle.journal.specs.Views.{new_pass};
 ghost use Rattle.std.specs.Io.KnownBytes.{Appends};
 ghost use Rattle.shard_run.specs.opening.Empty.{sharded_keyspace};
 ghost use Rattle.admin.specs.AdminAnswers.{keyspace_of};
-ghost use Rattle.vtgate_serve.specs.setup.Statuses.{status_of};
-ghost use Rattle.vtgate_serve.specs.inner.Accepted.{last_of};
+ghost use Rattle.vtgate_clients.specs.setup.Statuses.{status_of};
 ghost use Rattle.vtgate_serve.specs.Served.{listening_text};
 
-use crate::acceptor::Acceptor;
 use crate::admin_port::serve_admin;
-use crate::admission::{Admission, admission_of};
-use crate::arrivals::descriptors;
-use crate::connection::Connection;
-use crate::events::Start;
-use crate::progress::ServeProgress;
-use crate::server::Server;
-use crate::setup::{FAILURE, RunFault, ServeArgs};
-use crate::turns::Talk;
-use crate::welcome::welcome;
-use crate::{census, events};
 use admin::{Administrator, Engine, Gate, widest_limits};
-use connection_workers::{NotRun, Readiness, Sizes, run_turns};
 use journal::{Naming, Opener};
 use libc::net as c;
 use log::Log;
-use session::Sink;
-use shard::{ShardLaw, ShardPass, World};
 use std::alloc::Global;
-use std::net::{Net, TcpListener, TcpStream};
-use std::os::fd::AsRawFd;
+use std::net::TcpListener;
 use std::sync::Wait;
-use std::sync::atomic::{AtomicU64, Ordering};
 use std::thread;
 use std::thread::Threads;
-use std::time::{Clock, Duration};
-
-/// How many connections wait for a worker.
-pub(crate) const QUEUED: usize = 64;
+use std::time::Clock;
+use vtgate_clients::events::Start;
+use vtgate_clients::setup::{FAILURE, RunFault, ServeArgs};
+use vtgate_clients::{
+    Acceptor, ServeConfig, ServeProgress, Server, ShardLaw, ShardPass, Sink, World, can_start,
+    census, events, last_connection, serve_clients,
+};
 
 /// How many connections may wait until they are accepted. std asks for 128. Of a burst of more the system drops some, whose clients then wait for their
 /// greeting for ever.
@@ -46,85 +32,6 @@ const BACKLOG: i32 = 4096;
 
 /// What is printed once clients can connect.
 const LISTENING: &[u8] = b"listening\n";
-
-/// The two ports, bound.
-#[derive(Drop)]
-pub struct Ports {
-    pub clients: TcpListener,
-    pub admin: TcpListener,
-}
-
-// Has the system keep more connections that wait until they are accepted, as many as it does for any socket (net.core.somaxconn). It doesn't matter
-// whether it takes that.
-fn lengthen_backlog(listener: &TcpListener) {
-    let _ = c::listen(listener.as_raw_fd(), BACKLOG);
-}
-
-// Binds one port.
-fn bind_port<R: Log + Net<Listener = TcpListener, Stream = TcpStream>>(
-    rt: &R,
-    port: &'static str,
-    address: &str,
-) -> Result<TcpListener, RunFault>
-    ensures fault { IfErr result (λ f. status_of f ≡ FAILURE) }
-{
-    match TcpListener::bind(rt, address) {
-        Ok(listener) => {
-            lengthen_backlog(&listener);
-            Ok(listener)
-        }
-        Err(reason) => {
-            events::unbound(rt, port, address, &reason);
-            Err(RunFault::CannotBind)
-        }
-    }
-}
-
-/// Binds both ports.
-pub fn bind<R: Log + Net<Listener = TcpListener, Stream = TcpStream>>(
-    rt: &R,
-    address: &str,
-    admin: &str,
-) -> Result<Ports, RunFault>
-    ensures fault { IfErr result (λ f. status_of f ≡ FAILURE) }
-{
-    let clients = bind_port(rt, "clients", address)?;
-    let admin = bind_port(rt, "admin", admin)?;
-    Ok(Ports { clients, admin })
-}
-
-/// What a server needs: whom it lets in, as the words ask, and its ports.
-#[derive(Drop)]
-pub struct ServeConfig<'s> {
-    pub admission: Admission<'s>,
-    pub ports: Ports,
-}
-
-/// What a server needs that serves on the ports.
-pub fn config_of<'s>(
-    alloc: Global,
-    asked: &'s ServeArgs<'s>,
-    ports: Ports,
-) -> Result<ServeConfig<'s>, RunFault>
-    ensures asked { IfOk result (λ s. s.admission.asked.now ≡ asked.now) }
-    ensures fault { IfErr result (λ f. status_of f ≡ FAILURE) }
-{
-    match admission_of(alloc, asked) {
-        Ok(admission) => Ok(ServeConfig { admission, ports }),
-        Err(fault) => Err(fault),
-    }
-}
-
-/// After how many connections it ends.
-fn last_connection(asked: &ServeArgs<'_>) -> u32
-    ensures { result ≡ last_of asked.now.connections }
-{
-    if asked.connections == 0 {
-        u32::MAX
-    } else {
-        asked.connections
-    }
-}
 
 // Prints that it listens.
 fn tell_listening<O: Sink>(output: &mut O) -> Result<(), RunFault>
@@ -135,66 +42,6 @@ fn tell_listening<O: Sink>(output: &mut O) -> Result<(), RunFault>
         Ok(()) => Ok(()),
         Err(_) => Err(RunFault::Failed),
     }
-}
-
-// Serves the connections that the acceptor accepts, until the last one is over.
-fn run_workers<
-    's,
-    W: World + Send + Sync,
-    J: Naming + Send + Sync,
-    G: Gate,
-    R: Threads + Wait + Sync + Clock + Log,
->(
-    server: &'s Server<'s, W, J, G, R>,
-    acceptor: Acceptor<'s, W, J>,
-) -> Result<Acceptor<'s, W, J>, NotRun> {
-    let Ok(sockets) = Readiness::new() else {
-        return Err(NotRun::NoThread);
-    };
-    let asked = server.admission.asked;
-    let sizes = Sizes {
-        queue: QUEUED,
-        places: descriptors(),
-        workers: asked.workers,
-    };
-    run_turns(
-        server.rt,
-        server.alloc,
-        sizes,
-        &sockets,
-        &move |connection: Connection<W, J>| welcome(server, connection),
-        &move |talk: Talk<'_, W, J, R>, now: u64| talk.turned(server, now),
-        acceptor,
-    )
-}
-
-// Serves the connections that the acceptor accepts, and logs how that ended.
-fn serve_clients<
-    W: World + Send + Sync,
-    J: Naming + Send + Sync,
-    G: Gate,
-    R: Threads + Wait + Sync + Clock + Log,
->(
-    rt: &R,
-    alloc: Global,
-    engine: &Engine<W, J, G>,
-    admission: &Admission<'_>,
-    progress: &ServeProgress,
-    acceptor: Acceptor<'_, W, J>,
-) {
-    let server = Server {
-        rt,
-        alloc,
-        engine,
-        admission,
-        progress,
-    };
-    let served = run_workers(&server, acceptor);
-    match &served {
-        Ok(acceptor) => events::ended_all(rt, acceptor.accepted()),
-        Err(why) => events::not_run(rt, why),
-    }
-    progress.end(served.is_ok());
 }
 
 // Serves the admin port until the last connection is served, and returns whether it was.
@@ -261,42 +108,6 @@ fn serve_both<
                 );
             }
             serve_operators(server, administrator, controller, operators)
-        },
-    )
-}
-
-// Waits until all threads of a trial have begun, or one could not.
-fn wait_for_others<R: Wait + Clock>(rt: &R, begun: &AtomicU64) {
-    for _ in rt.forever() {
-        if begun.load(Ordering::SeqCst) != 0 {
-            return;
-        }
-        let _ = thread::sleep(rt, Duration::from_millis(1));
-    }
-}
-
-// Whether so many threads can be started at once: they are, and then end.
-fn can_start<R: Threads + Wait + Sync + Clock>(rt: &R, threads: u32) -> bool {
-    let begun = AtomicU64::new(0);
-    let begun = &begun;
-    thread::scope(
-        thread::scope_env(),
-        rt,
-        move |scope| -> bool
-            requires { IsSync R.row }
-        {
-            let mut all = true;
-            for _ in 0..threads {
-                all &= scope
-                    .spawn(
-                        move ||
-                            requires { IsSync R.row }
-                        { wait_for_others(rt, begun) },
-                    )
-                    .is_ok();
-            }
-            begun.store(1, Ordering::SeqCst);
-            all
         },
     )
 }
@@ -375,7 +186,7 @@ pub fn serve_router<
     ensures told { OnOk result (Appends (O.taken output.old) (O.taken output.new) listening_text) }
     ensures fault { IfErr result (λ f. status_of f ≡ FAILURE) }
 {
-    let asked = config.admission.asked;
+    let asked = config.admission.asked();
     let Beginning {
         mut administrator,
         opener,

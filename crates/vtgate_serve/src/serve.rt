@@ -5,24 +5,17 @@ ghost use Rattle.keyrange.specs.declared.KeyRange.{KeyRange};
 ghost use Rattle.vschema.specs.WellFormed.{is_vschema};
 ghost use Rattle.shard_law.specs.Entries.{most_limits};
 ghost use Rattle.shard_run.specs.opening.Empty.{opening_of, FitRanges};
-ghost use Rattle.vtgate_serve.specs.setup.ServeArgs.{ServeArgsView, IsServeCommand};
-ghost use Rattle.vtgate_serve.specs.setup.Inputs.{HasDeclared};
-ghost use Rattle.vtgate_serve.specs.setup.Statuses.{IsWrong, TellsNone, status_of};
+ghost use Rattle.vtgate_clients.specs.setup.ServeArgs.{ServeArgsView, IsServeCommand};
+ghost use Rattle.vtgate_clients.specs.setup.Inputs.{HasDeclared};
+ghost use Rattle.vtgate_clients.specs.setup.Statuses.{IsWrong, TellsNone, status_of};
 ghost use Rattle.vtgate_lines.specs.Partitions.{NamesPartition};
 ghost use Rattle.vtgate_serve.specs.Served.{HasRunServer, listening_text};
 
-use crate::ports::{Beginning, ServeConfig, bind, config_of, serve_router};
-use crate::setup::{
-    FAILURE, RunFault, SUCCESS, ServeArgs, USAGE, WRONG_WORDS, Word, ranges_of,
-    read_schema_or_text, read_words, refuse_plainly,
-};
-use crate::{events, schema_faults};
+use crate::ports::{Beginning, serve_router};
 use admin::{Gate, Open, administered_router, widest_limits};
 use journal::{Naming, Opened};
 use keyrange::KeyRange;
 use log::Log;
-use session::{Sink, Source};
-use shard::{ShardLaw, World};
 use std::alloc::Global;
 use std::marker::Brand;
 use std::net::{Net, TcpListener, TcpStream};
@@ -30,6 +23,13 @@ use std::sync::Wait;
 use std::thread::Threads;
 use std::time::Clock;
 use vschema::{Hashing, VSchema};
+use vtgate_clients::setup::{
+    FAILURE, RunFault, SUCCESS, ServeArgs, USAGE, WRONG_WORDS, Word, ranges_of,
+    read_schema_or_text, read_words, refuse_plainly,
+};
+use vtgate_clients::{
+    ServeConfig, ShardLaw, Sink, Source, World, bind, config_of, events, schema_faults,
+};
 
 /// Serves over the VSchema and the ranges in the journal that was opened. The gate wraps each shard's read. The clauses tie the VSchema,
 /// the ranges and the journal to the world, so that they are handed over one by one.
@@ -57,7 +57,7 @@ pub fn serve_opened<
     ensures told { OnOk result (Appends (O.taken output.old) (O.taken output.new) listening_text) }
     ensures fault { IfErr result (λ f. status_of f ≡ FAILURE) }
 {
-    let asked = config.admission.asked;
+    let asked = config.admission.asked();
     let waiting = u64::from(asked.buffer);
     let limits = widest_limits();
     match administered_router::<W, J, G>(alloc, schema, ranges, limits, opened, waiting, gate) {
@@ -148,6 +148,9 @@ fn served<
     serve_in_world::<Brand, R, O>(rt, alloc, asked, schema, &ranges, output)
 }
 
+// Promise: What `serve` reads and prints is what its words ask for; wrong words touch neither
+// With: vtgate_main::run
+// Clauses: serve, unserved, wrong
 /// Serves connections as the words of the command line ask, under the VSchema that the whole input declares, and gives the status 0 after the
 /// last one. The status is 1 if a port can't be bound, which is printed, if no thread could be started, if a device fails and if
 /// there is no memory for what it runs over; and 2 if the word of the shards names no ranges, or more than 63 with an unsharded

@@ -9,15 +9,15 @@ use Rattle.shard_run.specs.declared.Entry.{Entry}
 use Rattle.shard_run.specs.Runs.{Opening, database}
 use Rattle.shard_run.specs.Openings.{IsOpening}
 use Rattle.shard_law.specs.Entries.{MayFollow, most_limits}
-use Rattle.session.specs.ShardCallsAlone.{NoOthers}
-use Rattle.session.specs.Transactions.{PassAndTx}
-use Rattle.session.specs.Pendings.{OpenView, Represents}
+use Rattle.vtgate_clients.specs.ShardCallsAlone.{NoOthers}
+use Rattle.vtgate_clients.specs.Transactions.{PassAndTx}
+use Rattle.vtgate_clients.specs.Pendings.{OpenView, Represents}
 use Rattle.admin.proofs.NoOthers.{one_still}
-use Rattle.session.specs.Alone.{AnsweredStatement}
-use Rattle.session.specs.Among.{told_in}
-use Rattle.session.specs.inner.TypedSteps.{AreTyped}
-use Rattle.session.specs.conversation.Means.{PassAndTransaction}
-use Rattle.session.proofs.Among.{Left, answer_among, refused_at}
+use Rattle.vtgate_clients.specs.Alone.{AnsweredStatement}
+use Rattle.vtgate_clients.specs.Among.{told_in}
+use Rattle.vtgate_clients.specs.TypedSteps.{AreTyped}
+use Rattle.vtgate_clients.specs.Means.{PassAndTransaction}
+use Rattle.vtgate_clients.proofs.Among.{Left, answer_among, refused_at}
 use Rattle.vtgate_serve.specs.script.Scripted as s
 use Rattle.vtgate_serve.specs.script.Scripted.{Prints, PrintsAmong}
 

@@ -13,9 +13,9 @@ use Rattle.shard_run.specs.Runs.{Run, Opening}
 use Rattle.shard_run.specs.Openings.{IsOpening}
 use Rattle.shard_law.proofs.Lists.{In, In-filter}
 use Rattle.shard_law.specs.Entries.{MayFollow, commit_of}
-use Rattle.session.specs.ShardCallsAlone.{IsNoOthers, NoOthers, NoCommits}
-use Rattle.session.specs.Pendings.{OpenView}
-use Rattle.session.specs.conversation.Means.{PassAndTransaction}
+use Rattle.vtgate_clients.specs.ShardCallsAlone.{IsNoOthers, NoOthers, NoCommits}
+use Rattle.vtgate_clients.specs.Pendings.{OpenView}
+use Rattle.vtgate_clients.specs.Means.{PassAndTransaction}
 use Rattle.vtgate_serve.specs.script.Scripted.{met}
 use Rattle.vtgate_serve.specs.script.inner.UnderWay.{KeptState, KeptSession, PrintsFrom, PrintsHere, KnowsOwn, IsKnown, HasSeenLess}
 use Rattle.vtgate_serve.proofs.script.Among.{prints_among}

@@ -8,10 +8,10 @@ use Rattle.journal.proofs.Fronts.{prefix_both}
 use Rattle.shard_run.specs.declared.Entry.{Entry}
 use Rattle.shard_run.specs.Runs.{Opening}
 use Rattle.shard_law.specs.declared.limits.Limits.{Limits}
-use Rattle.session.specs.Reply.{Reply}
-use Rattle.session.specs.Transactions.{Transaction, IsReplyTo, IsRefusedAt}
-use Rattle.session.specs.Pendings.{OpenView, Represents, IsOf}
-use Rattle.session.proofs.Steps.{answer_on, refusal_at_on}
+use Rattle.vtgate_clients.specs.Reply.{Reply}
+use Rattle.vtgate_clients.specs.Transactions.{Transaction, IsReplyTo, IsRefusedAt}
+use Rattle.vtgate_clients.specs.Pendings.{OpenView, Represents, IsOf}
+use Rattle.vtgate_clients.proofs.Steps.{answer_on, refusal_at_on}
 
 -- ---- statements
 

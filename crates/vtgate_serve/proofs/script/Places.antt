@@ -11,9 +11,9 @@ use Rattle.journal.proofs.Fronts.{prefix_self, prefix_trans}
 use Rattle.journal.specs.Views.{PassView, new_pass}
 use Rattle.shard_run.specs.declared.Entry.{Entry}
 use Rattle.shard_run.specs.Runs.{Run, Opening}
-use Rattle.session.specs.Pendings as stands
-use Rattle.session.specs.Pendings.{OpenView, IsOf}
-use Rattle.session.specs.conversation.Means.{PassAndTransaction, none_open}
+use Rattle.vtgate_clients.specs.Pendings as stands
+use Rattle.vtgate_clients.specs.Pendings.{OpenView, IsOf}
+use Rattle.vtgate_clients.specs.Means.{PassAndTransaction, none_open}
 use Rattle.vtgate_serve.specs.script.Scripted as s
 use Rattle.vtgate_serve.specs.script.Scripted.{Session, ScriptProgress, PrintsAt, Runs, met}
 use Rattle.vtgate_serve.proofs.script.Knowing.{known_opened}

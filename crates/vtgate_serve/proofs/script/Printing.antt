@@ -9,14 +9,14 @@ use Rattle.shard_run.specs.declared.Entry.{Entry}
 use Rattle.shard_run.specs.Runs.{Run, Opening}
 use Rattle.shard_law.specs.declared.limits.Limits.{Limits}
 use Rattle.shard_law.specs.Entries.{slot_of, commit_of, MayFollow, most_limits}
-use Rattle.session.specs.Reply.{Reply}
-use Rattle.session.specs.Transactions.{Transaction}
-use Rattle.session.specs.Pendings.{OpenView, Represents, IsOf}
-use Rattle.session.specs.conversation.Means.{PassAndTransaction}
+use Rattle.vtgate_clients.specs.Reply.{Reply}
+use Rattle.vtgate_clients.specs.Transactions.{Transaction}
+use Rattle.vtgate_clients.specs.Pendings.{OpenView, Represents, IsOf}
+use Rattle.vtgate_clients.specs.Means.{PassAndTransaction}
 use Rattle.admin.proofs.Anywhere.{stands_met}
 use Rattle.vtgate_serve.specs.script.Scripted as s
 use Rattle.vtgate_serve.specs.script.Scripted.{Prints, met}
-use Rattle.session.specs.inner.TypedSteps.{AreTyped}
+use Rattle.vtgate_clients.specs.TypedSteps.{AreTyped}
 use Rattle.vtgate_serve.specs.script.inner.UnderWay.{PrintsFrom, IsOutcomeShown}
 use Rattle.vtgate_serve.proofs.script.Typing.{typed_then}
 use Rattle.vtgate_serve.proofs.script.Passes.{Answered, Refused, goes_on, sees_all}

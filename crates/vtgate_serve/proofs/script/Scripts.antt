@@ -6,14 +6,14 @@ use Rattle.std.proofs.KnownBytes.{Appends-nil, Appends-trans}
 use Rattle.journal.specs.Views.{PassView}
 use Rattle.shard_run.specs.declared.Entry.{Entry}
 use Rattle.shard_run.specs.Runs.{Run, Opening}
-use Rattle.session.specs.ShardCallsAlone.{NoCommits}
+use Rattle.vtgate_clients.specs.ShardCallsAlone.{NoCommits}
 use Rattle.shard_law.specs.Entries.{most_limits}
 use Rattle.admin.specs.declared.reply.AdminReply.{AdminReply}
 use Rattle.admin.specs.AdminAnswers.{AdministratorView, IsAdminReply}
 use Rattle.admin.specs.Words.{reply_text}
 use Rattle.vtgate_lines.specs.Lines.{IsNextLine, IsAdminLine}
 use Rattle.vtgate_lines.specs.Lines as l
-use Rattle.vtgate_serve.specs.setup.Inputs.{Known}
+use Rattle.vtgate_clients.specs.setup.Inputs.{Known}
 use Rattle.vtgate_serve.specs.script.Scripted as s
 use Rattle.vtgate_serve.specs.script.inner.UnderWay.{KeptProgress, IsProgressOf, nothing_kept}
 use Rattle.vtgate_serve.specs.script.Scripted.{ScriptProgress, PrintsLine, AllGive, HasPrinted, at_first}

@@ -2,9 +2,9 @@
 use Rattle.std.proofs.Common.{ℕ, List}
 use Rattle.shard_law.specs.Entries.{most_limits}
 use Rattle.shard_run.specs.Runs.{Opening}
-use Rattle.session.specs.conversation.Means.{PassAndTransaction}
-use Rattle.session.specs.inner.TypedSteps.{AreTyped}
-use Rattle.session.proofs.Typing.{answered_at, refused_at}
+use Rattle.vtgate_clients.specs.Means.{PassAndTransaction}
+use Rattle.vtgate_clients.specs.TypedSteps.{AreTyped}
+use Rattle.vtgate_clients.proofs.Typing.{answered_at, refused_at}
 use Rattle.vtgate_serve.specs.script.Scripted as s
 use Rattle.vtgate_serve.specs.script.Scripted.{Prints}
 

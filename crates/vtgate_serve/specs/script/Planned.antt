@@ -5,7 +5,7 @@ use Rattle.keyrange.specs.declared.KeyRange.{KeyRange}
 use Rattle.vschema.specs.declared.schema.VSchema.{VSchema}
 use Rattle.vtgate_lines.specs.Partitions.{NamesPartition}
 use Rattle.vtgate_lines.specs.Plans.{IsPlanLine}
-use Rattle.vtgate_serve.specs.setup.Inputs.{Known, HasDeclared}
+use Rattle.vtgate_clients.specs.setup.Inputs.{Known, HasDeclared}
 
 -- the line of the statement's plan, under the VSchema of the input and over the ranges that the word of the shards tells
 pub record IsPlanned (shards sql : List ℕ) (unread rest : Known) (line : List ℕ) : Type 0 where

@@ -12,15 +12,15 @@ use Rattle.journal.specs.Views.{PassView, new_pass}
 use Rattle.shard_run.specs.declared.Entry.{Entry}
 use Rattle.shard_run.specs.Runs.{Run, Opening, database}
 use Rattle.shard_law.specs.Entries.{most_limits}
-use Rattle.session.specs.Answer.{Answer}
-use Rattle.session.specs.Answer.TheVariants.{Rows, Count}
-use Rattle.session.specs.Reply.{Reply}
-use Rattle.session.specs.ShardCallsAlone.{NoOthers, NoCommits, IsRefusedOver}
-use Rattle.session.specs.Transactions.{IsReplyTo, IsRefusedAt}
+use Rattle.vtgate_clients.specs.Answer.{Answer}
+use Rattle.vtgate_clients.specs.Answer.TheVariants.{Rows, Count}
+use Rattle.vtgate_clients.specs.Reply.{Reply}
+use Rattle.vtgate_clients.specs.ShardCallsAlone.{NoOthers, NoCommits, IsRefusedOver}
+use Rattle.vtgate_clients.specs.Transactions.{IsReplyTo, IsRefusedAt}
 use Rattle.shard_run.specs.opening.Empty.{opening_of, FitRanges}
-use Rattle.session.specs.conversation.Means.{PassAndTransaction, none_open, HasRows}
-use Rattle.session.specs.Alone.{AnsweredStatement}
-use Rattle.session.specs.Among.{AnswersAmong, told_in}
+use Rattle.vtgate_clients.specs.Means.{PassAndTransaction, none_open, HasRows}
+use Rattle.vtgate_clients.specs.Alone.{AnsweredStatement}
+use Rattle.vtgate_clients.specs.Among.{AnswersAmong, told_in}
 use Rattle.vtgate_lines.specs.Lines.{IsStatementLine, IsAdminLine, IsNextLine}
 use Rattle.vtgate_lines.specs.Partitions.{NamesPartition}
 use Rattle.admin.specs.declared.reply.AdminReply.{AdminReply}
@@ -28,7 +28,7 @@ use Rattle.admin.specs.AdminAnswers.{AdministratorView, IsAdminReply}
 use Rattle.admin.specs.Words.{reply_text}
 use Rattle.admin.specs.Idle.{opening_workflow}
 use Rattle.vtgate_lines.specs.Printed.{rows_text, count_text, refusal_text}
-use Rattle.vtgate_serve.specs.setup.Inputs.{Known}
+use Rattle.vtgate_clients.specs.setup.Inputs.{Known}
 
 -- what is printed of an answer: its rows, or its count
 abbrev pub answer_text : Answer → List ℕ

@@ -6,8 +6,8 @@ use Rattle.vschema.specs.declared.schema.VSchema.{VSchema}
 use Rattle.vschema.specs.Meant.{contents, schema_read}
 use Rattle.vtgate_lines.specs.Lines.{IsNextLine}
 use Rattle.vtgate_lines.specs.Partitions.{NamesPartition}
-use Rattle.vtgate_serve.specs.setup.Inputs.{Known}
-use Rattle.vtgate_serve.specs.setup.Statuses.{AreTooMany, IsNoSchema, TellsNone}
+use Rattle.vtgate_clients.specs.setup.Inputs.{Known}
+use Rattle.vtgate_clients.specs.setup.Statuses.{AreTooMany, IsNoSchema, TellsNone}
 
 -- A script's text declares no VSchema for the ranges: it has no line; its first line is no VSchema; or that is one under which the ranges are
 -- too many.

@@ -1,14 +1,14 @@
 //! `vtgate plan`: the route of a statement, and its shards.
 ghost use Rattle.std.specs.Prelude.{◌≡◌, ◌≤◌, IfOk, IfErr};
-ghost use Rattle.vtgate_serve.specs.setup.Statuses.{IsWrong, TellsNone, status_of};
+ghost use Rattle.vtgate_clients.specs.setup.Statuses.{IsWrong, TellsNone, status_of};
 ghost use Rattle.vtgate_serve.specs.script.Planned.{IsPlanned, HasPlanned};
 
-use crate::setup::{
-    RunFault, SUCCESS, WRONG_WORDS, ranges_of, read_schema, refuse, refuse_plainly,
-};
-use session::{Sink, Source};
 use std::alloc::Global;
 use vschema::Hashing;
+use vtgate_clients::setup::{
+    RunFault, SUCCESS, WRONG_WORDS, ranges_of, read_schema, refuse, refuse_plainly,
+};
+use vtgate_clients::{Sink, Source};
 use vtgate_lines::plan_line;
 
 fn planned<I: Source>(

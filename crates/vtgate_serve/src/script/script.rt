@@ -7,24 +7,23 @@ ghost use Rattle.shard_run.specs.opening.Empty.{opening_of, FitRanges};
 ghost use Rattle.admin.specs.Idle.{opening_workflow};
 ghost use Rattle.vtgate_lines.specs.Lines.{IsNextLine};
 ghost use Rattle.vtgate_lines.specs.Partitions.{NamesPartition};
-ghost use Rattle.vtgate_serve.specs.setup.Statuses.{TellsNone, status_of};
+ghost use Rattle.vtgate_clients.specs.setup.Statuses.{TellsNone, status_of};
 ghost use Rattle.vtgate_serve.specs.script.Scripted.{HasPrinted, HasScripted};
 ghost use Rattle.vtgate_serve.specs.script.Wrong.{DeclaresNone, IsWrongScript};
 
 use crate::script::sessions::{ScriptContext, Sessions, run_lines};
-use crate::setup::{
-    FAILURE, RunFault, SUCCESS, WRONG_WORDS, has_too_many, ranges_of, read_all, refuse, schema_of,
-};
 use admin::{Open, administered_router, widest_limits};
 use journal::{Naming, Opened};
 use keyrange::KeyRange;
-use session::{Sink, Source};
-use shard::{ShardLaw, World};
 use std::alloc::Global;
 use std::marker::Brand;
 use std::sync::Wait;
 use std::thread::Threads;
 use vschema::{Hashing, SchemaFault, VSchema};
+use vtgate_clients::setup::{
+    FAILURE, RunFault, SUCCESS, WRONG_WORDS, has_too_many, ranges_of, read_all, refuse, schema_of,
+};
+use vtgate_clients::{ShardLaw, Sink, Source, World};
 use vtgate_lines::next_line;
 
 // The lines, run over the VSchema and the ranges in the journal that was opened. The clauses tie these three to the world, so they are handed

@@ -8,23 +8,22 @@ ghost use Rattle.journal.specs.Runs.{IsLegal, by_session};
 ghost use Rattle.shard_run.specs.Openings.{IsOpening};
 ghost use Rattle.shard_law.specs.Entries.{MayFollow, commit_of, most_limits};
 ghost use Rattle.vtgate_lines.specs.Printed.{rows_text, refusal_text};
-ghost use Rattle.session.specs.Pendings.{IsOf};
+ghost use Rattle.vtgate_clients.specs.Pendings.{IsOf};
 ghost use Rattle.shard_run.specs.opening.Empty.{sharded_keyspace};
 ghost use Rattle.admin.specs.AdminAnswers.{keyspace_of};
-ghost use Rattle.vtgate_serve.specs.setup.Statuses.{status_of};
+ghost use Rattle.vtgate_clients.specs.setup.Statuses.{status_of};
 ghost use Rattle.vtgate_serve.specs.script.Scripted.{HasPrinted, unknown_text};
 ghost use Rattle.vtgate_serve.specs.script.inner.UnderWay.{KeptSession, HasSeenLess, IsShown, IsOutcomeShown, KnowsOwn, PrintsFrom, nothing_kept};
 
-use crate::setup::{FAILURE, RunFault};
 use admin::{Administrator, Answer, Engine, Open, Reply, Tx, administer};
 use journal::{Naming, Opener};
-use session::{DeviceFailed, ShownRows, Sink};
-use shard::{ShardLaw, ShardPass, World};
 use std::alloc::Global;
 use std::marker::Model;
 use std::sync::Wait;
 use std::thread::Threads;
 use vt_value::{Items, Refusal};
+use vtgate_clients::setup::{FAILURE, RunFault};
+use vtgate_clients::{DeviceFailed, ShardLaw, ShardPass, ShownRows, Sink, World};
 use vtgate_lines::{Line, count_line, next_line, put_shown_rows, read_line, refusal_line};
 
 // Writes rows, or that there is no memory for them.
@@ -201,7 +200,7 @@ impl<W: World + Send + Sync, J: Naming + Send + Sync> Sessions<W, J> {
     ghost use Rattle.admin.specs.AdminAnswers as told;
     ghost use Rattle.admin.specs.AdminAnswers.{keyspace_of};
     ghost use Rattle.admin.specs.Words.{reply_text};
-    ghost use Rattle.session.specs.ShardCallsAlone.{NoCommits};
+    ghost use Rattle.vtgate_clients.specs.ShardCallsAlone.{NoCommits};
     ghost use Rattle.vtgate_serve.specs.script.Scripted.{ScriptProgress, Runs, PrintsLine};
     ghost use Rattle.vtgate_serve.specs.script.inner.UnderWay.{KeptState, KeptSession, IsProgressOf, PrintsHere, HasOpened, nothing_kept};
 

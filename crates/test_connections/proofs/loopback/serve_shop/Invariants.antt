@@ -1,4 +1,4 @@
-use Rattle.session.specs.Entries.{most_limits}
+use Rattle.vtgate_serve.specs.Entries.{most_limits}
 use Rattle.shard_run.specs.opening.Empty.{opening_of}
 use Rattle.test_connections.proofs.loopback.serve_shop.Given as goal
 

@@ -1,4 +1,4 @@
-use Rattle.session.proofs.Keeping.{none_of}
+use Rattle.vtgate_serve.proofs.Keeping.{none_of}
 use Rattle.test_connections.proofs.sessions.converse.Goals as goal
 
 pub feed-requires-clause-tx : goal.feed-requires-clause-tx

@@ -1,5 +1,5 @@
 use Rattle.std.proofs.Common.{IsSome}
-use Rattle.session.specs.Pendings.{IsOf}
+use Rattle.vtgate_serve.specs.Pendings.{IsOf}
 use Rattle.test_connections.proofs.sessions.feed.Given as goal
 
 -- the pass is a session's, and what the session keeps is of it

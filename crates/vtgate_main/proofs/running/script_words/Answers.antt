@@ -1,7 +1,7 @@
 use Rattle.std.proofs.Common.{arith, sym, ◌∙◌, refl}
 use Rattle.std.specs.Prelude.{codes}
 use Rattle.std.proofs.lemmas.Slice.Eq.{bytes_eq-Decides}
-use Rattle.vtgate_serve.specs.setup.Words.{word_bytes, word_text}
+use Rattle.vtgate_serve.specs.Words.{word_bytes, word_text}
 use Rattle.vtgate_main.proofs.PlanWords.{bytes_of, two_of}
 use Rattle.vtgate_main.proofs.running.script_words.Goals as goal
 

@@ -1,9 +1,9 @@
 use Rattle.std.proofs.Common.{◌≡◌, ℕ, List, ap, subst, sym}
 use Rattle.std.proofs.lemmas.Result.{on_ok_weaker, err_from_is_err_and}
-use Rattle.vtgate_serve.specs.setup.ServeArgs.{ServeArgsView}
+use Rattle.vtgate_clients.specs.setup.ServeArgs.{ServeArgsView}
 use Rattle.vtgate_lines.specs.Partitions.{NamesPartition}
-use Rattle.vtgate_serve.specs.setup.Statuses.{TellsNone}
-use Rattle.vtgate_serve.specs.setup.Statuses as w
+use Rattle.vtgate_clients.specs.setup.Statuses.{TellsNone}
+use Rattle.vtgate_clients.specs.setup.Statuses as w
 use Rattle.vtgate_serve.proofs.serve.served.Goals as goal
 
 pub returns-in_err-schema-clause-untouched : goal.returns-in_err-schema-clause-untouched

@@ -8,12 +8,12 @@ use Rattle.journal.specs.Runs.{by_session}
 use Rattle.journal.specs.Views.{PassView, new_pass}
 use Rattle.shard_run.specs.declared.Entry.{Entry}
 use Rattle.shard_run.specs.Runs.{Run, Opening}
-use Rattle.session.specs.Answer.{Answer}
-use Rattle.session.specs.Reply.{Reply}
+use Rattle.vtgate_clients.specs.Answer.{Answer}
+use Rattle.vtgate_clients.specs.Reply.{Reply}
 use Rattle.shard_law.specs.Entries.{commit_of}
-use Rattle.session.specs.Pendings.{OpenView, IsOf}
-use Rattle.session.specs.conversation.Means.{PassAndTransaction, IsKept, HasRows}
-use Rattle.session.specs.inner.TypedSteps.{AreTyped}
+use Rattle.vtgate_clients.specs.Pendings.{OpenView, IsOf}
+use Rattle.vtgate_clients.specs.Means.{PassAndTransaction, IsKept, HasRows}
+use Rattle.vtgate_clients.specs.TypedSteps.{AreTyped}
 use Rattle.vtgate_lines.specs.Printed.{refusal_text}
 use Rattle.vtgate_serve.specs.script.Scripted.{Session, ScriptProgress, Prints, PrintsAt, met, answer_text}
 

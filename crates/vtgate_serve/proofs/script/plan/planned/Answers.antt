@@ -1,6 +1,6 @@
 use Rattle.std.proofs.Common.{sym}
 use Rattle.std.proofs.lemmas.Result.{err_from_is_err_and}
-use Rattle.vtgate_serve.specs.setup.Statuses as w
+use Rattle.vtgate_clients.specs.setup.Statuses as w
 use Rattle.vtgate_serve.proofs.script.plan.planned.Goals as goal
 
 pub returns-in-Ok-clause-ok : goal.returns-in-Ok-clause-ok

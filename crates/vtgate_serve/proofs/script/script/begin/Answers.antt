@@ -1,4 +1,4 @@
-use Rattle.vtgate_serve.proofs.setup.Fits.{fits}
+use Rattle.vtgate_clients.proofs.setup.Fits.{fits}
 use Rattle.vtgate_serve.specs.script.Wrong as w
 use Rattle.vtgate_serve.proofs.script.script.begin.Goals as goal
 

@@ -8,14 +8,14 @@ use Rattle.std.proofs.Common.{List, [], ◌∷◌}
 use Rattle.std.specs.contracts.alloc.Global as heap
 use Rattle.std.proofs.alloc.Global.TheSendSync as sent_heap
 use Rattle.admin.specs.Engine as engine
-use Rattle.session.proofs.Sent.{captures_send}
+use Rattle.vtgate_clients.proofs.SentPasses.{captures_send}
 use Rattle.admin.proofs.Shared.{engine_sync}
-use Rattle.vtgate_serve.specs.contracts.admission.Admission as admission
-use Rattle.vtgate_serve.specs.contracts.acceptor.Acceptor as acceptor
-use Rattle.vtgate_serve.specs.contracts.progress.ServeProgress as progress
-use Rattle.vtgate_serve.proofs.admission.Admission.TheSendSync as sent_admission
-use Rattle.vtgate_serve.proofs.progress.ServeProgress.TheSendSync as sent_progress
-use Rattle.vtgate_serve.proofs.Sent.{acceptor_send}
+use Rattle.vtgate_clients.specs.contracts.admission.Admission as admission
+use Rattle.vtgate_clients.specs.contracts.acceptor.Acceptor as acceptor
+use Rattle.vtgate_clients.specs.contracts.progress.ServeProgress as progress
+use Rattle.vtgate_clients.proofs.admission.Admission.TheSendSync as sent_admission
+use Rattle.vtgate_clients.proofs.progress.ServeProgress.TheSendSync as sent_progress
+use Rattle.vtgate_clients.proofs.Sent.{acceptor_send}
 use Rattle.vtgate_serve.proofs.ports.fn.serve_both.scope.Goals as goal
 
 -- what the closure captures: the handle, the allocator, the engine, the admission, the progress and the acceptor

@@ -4,7 +4,7 @@ use Rattle.journal.specs.Views.{PassView}
 use Rattle.shard_run.specs.declared.Entry.{Entry}
 use Rattle.shard_run.specs.Runs.{Run}
 use Rattle.shard_law.specs.declared.limits.Limits.{Limits}
-use Rattle.session.specs.ShardCallsAlone.{NoCommits}
+use Rattle.vtgate_clients.specs.ShardCallsAlone.{NoCommits}
 use Rattle.admin.specs.AdminAnswers.{IsAdminReply}
 use Rattle.vtgate_serve.specs.script.inner.UnderWay.{KeptSession, KeptProgress}
 use Rattle.vtgate_serve.proofs.script.Printing.{on_ok}

@@ -1,0 +1,15 @@
+pub mod Accepted
+pub mod Admitted
+pub mod inner
+pub mod setup
+pub use Rattle.session.specs.Alone
+pub use Rattle.session.specs.Among
+pub use Rattle.session.specs.Answer
+pub use Rattle.session.specs.Pendings
+pub use Rattle.session.specs.Reply
+pub use Rattle.session.specs.ShardCallsAlone
+pub use Rattle.session.specs.Transactions
+pub use Rattle.session.specs.Entries
+pub use Rattle.session.specs.conversation.Devices
+pub use Rattle.session.specs.conversation.Means
+pub use Rattle.session.specs.inner.TypedSteps

@@ -1,6 +1,0 @@
-use Rattle.std.proofs.Common.{ap}
-use Rattle.vtgate_serve.specs.setup.ServeArgs.{ServeArgsView}
-use Rattle.vtgate_serve.proofs.admission.Admission.nonce.Goals as goal
-
-pub returns : goal.returns
-returns c = ap (λ (a : ServeArgsView). a.nonce) c.asked.view_is
