@@ -6,15 +6,27 @@ ghost use Rattle.vtgate_clients.specs.inner.Accepted.{last_of};
 use crate::admission::{Admission, admission_of};
 use crate::events;
 use crate::setup::{FAILURE, RunFault, ServeArgs};
+use libc::net as c;
 use log::Log;
 use std::alloc::Global;
 use std::net::{Net, TcpListener, TcpStream};
+use std::os::fd::AsRawFd;
+
+/// How many connections may wait until they are accepted. std asks for 128. Of a burst of more the system drops some, whose clients then wait for their
+/// greeting for ever.
+const BACKLOG: i32 = 4096;
 
 /// The two ports, bound.
 #[derive(Drop)]
 pub struct Ports {
     pub clients: TcpListener,
     pub admin: TcpListener,
+}
+
+// Has the system keep more connections that wait until they are accepted, as many as it does for any socket (net.core.somaxconn). It doesn't matter
+// whether it takes that.
+fn lengthen_backlog(listener: &TcpListener) {
+    let _ = c::listen(listener.as_raw_fd(), BACKLOG);
 }
 
 // Binds one port.
@@ -26,7 +38,10 @@ fn bind_port<R: Log + Net<Listener = TcpListener, Stream = TcpStream>>(
     ensures fault { IfErr result (λ f. status_of f ≡ FAILURE) }
 {
     match TcpListener::bind(rt, address) {
-        Ok(listener) => Ok(listener),
+        Ok(listener) => {
+            lengthen_backlog(&listener);
+            Ok(listener)
+        }
         Err(reason) => {
             events::unbound(rt, port, address, &reason);
             Err(RunFault::CannotBind)
