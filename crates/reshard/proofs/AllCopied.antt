@@ -1,8 +1,8 @@
 -- Targets copy all of their sources, one after the other.
-use Rattle.std.proofs.Common.{◌≡◌, inl, inr, ◌<◌, ℕ, zero, suc, ◌+◌, ◌≤◌, List, [], ◌∷◌, ◌++◌, length, map, take, get_or, refl, sym, ap, ◌∙◌, subst, arith, length-append}
+use Rattle.std.proofs.Common.{◌≡◌, inl, inr, ◌<◌, ℕ, zero, suc, ◌+◌, ◌≤◌, List, [], ◌∷◌, ◌++◌, length, map, take, drop, get_or, refl, sym, ap, ◌∙◌, subst, arith, append_assoc, length-append}
 use Rattle.std.specs.Prelude.{Contains}
 use Rattle.std.specs.List.{AllByRecursion}
-use Rattle.std.proofs.lemmas.List.{take_more, map-append}
+use Rattle.std.proofs.lemmas.List.{take_more, map-append, take-append-drop}
 use Rattle.journal.specs.Views.{PassView}
 use Rattle.shard_run.specs.declared.Entry.{Entry}
 use Rattle.shard_run.specs.Runs.{Opening}
@@ -20,7 +20,7 @@ use Rattle.reshard_create.proofs.Lists.{all-weaker}
 use Rattle.reshard_create.proofs.Moving.{with_after, with_later}
 use Rattle.reshard_create.proofs.Onward.{still, onward_trans}
 use Rattle.reshard_create.proofs.Retiring.{all_map_next, map_at}
-use Rattle.reshard.specs.Cutover.{HasFollowed, HasCopiedAllOf}
+use Rattle.reshard.specs.Cutover.{HasFollowed, HasCopiedAllOf, HaveCome, HasMovedUntilRefused, HaveComeUntilRefused}
 use Rattle.reshard.specs.Cutover as cut
 
 -- the first of one target is this one
@@ -131,6 +131,19 @@ module _ {T : Type 0} (f : T → TargetWithSources) (targets : List T) (n : ℕ)
       let more = take_more targets n t there ∙ ap (λ x. take n targets ++ x ∷ []) (sym is) in
       subst (λ (l : List T). EachInTurn Part (map f l) p now) (sym more)
       (subst (λ (l : List TargetWithSources). EachInTurn Part l p now) (sym (map-append f (take n targets) (t ∷ []))) (turns.next before part))
+
+  split : targets ≡ take n targets ++ t ∷ drop (n + 1) targets
+  split =
+      let more = take_more targets n t there ∙ ap (λ x. take n targets ++ x ∷ []) (sym is) in
+      sym (take-append-drop (n + 1) targets) ∙ ap (λ (l : List T). l ++ drop (n + 1) targets) more
+      ∙ append_assoc (take n targets) (t ∷ []) (drop (n + 1) targets)
+
+  -- it is refused a step in its turn
+  pub come_until : (p q now : PassView Entry) → HaveCome (map f (take n targets)) p q → HasMovedUntilRefused (f t ∷ []) q now
+      → HaveComeUntilRefused (map f targets) p now
+  come_until p q now before last =
+      cut.coming (map f (take n targets)) (map f (drop (n + 1) targets)) (f t) q
+      (ap (map f) split ∙ map-append f (take n targets) (t ∷ drop (n + 1) targets)) before last
 
 pub all_of : {T : Type 0} (targets : List T) (n : ℕ) → length targets ≤ n → take n targets ≡ targets
 all_of [] zero far = refl

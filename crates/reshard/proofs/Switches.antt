@@ -123,6 +123,10 @@ pub on_refusal : {X E : Type 0} (r : Result X E) (P : Type 0) → P → OnErr r 
 on_refusal (Ok x) P p = tt
 on_refusal (Err e) P p = p
 
+pub refusal_weaker : {X E : Type 0} (r : Result X E) (P Q : Type 0) → (P → Q) → OnErr r P → OnErr r Q
+refusal_weaker (Ok x) P Q f h = tt
+refusal_weaker (Err e) P Q f h = f h
+
 pub when_none : {X : Type 0} (o : Option X) (A : Type 0) (B : X → Type 0) → o ≡ None → MatchOption o A B → A
 when_none {X = X} o A B none h = subst (λ (x : Option X). MatchOption x A B) none h
 

@@ -15,10 +15,9 @@ use Rattle.reshard.specs.declared.cutover.CutoverStep.{CutoverStep}
 use Rattle.reshard.specs.declared.cutover.CutoverStep.TheVariants.{Release}
 use Rattle.reshard.specs.Workflows.{WorkflowView}
 use Rattle.reshard_create.specs.TargetSources.{TargetWithSources}
-use Rattle.reshard.specs.Cutover.{IsFurther, HasFinished, HasSwitched, HasSwitchedOn, HasSwitchedToTheEnd, HasStopped, HasStoppedShort, HasStoppedLater, MaySwitch}
+use Rattle.reshard.specs.Cutover.{IsFurther, HasFinished, HasSwitched, HasSwitchedOn, HasSwitchedToTheEnd, HasStoppedShort, HasStoppedOn, MaySwitch}
 use Rattle.reshard_create.specs.Looks.{IsCutOver, slots_of_both}
 use Rattle.reshard_create.specs.Turns.{HasLookedAt}
-use Rattle.reshard_create.proofs.Onward.{onward_trans}
 use Rattle.reshard.specs.Cutover as cut
 
 pub further_still : (w : WorkflowView) → IsFurther w w
@@ -111,27 +110,13 @@ through o w now p last q far steps sources targets s t after looked = record {
 }
 
 -- a refusal in a step of a cutover that had gone on
-pub stopped_later : (o : Opening) (most : Limits) (w mid now : WorkflowView) (p before q : PassView Entry) (e : ReshardFault) → IsFurther w mid
-    → IsOnward o p before → HasStopped o most mid now before q e → HasStoppedLater o most w now p q e
-stopped_later o most w mid now p before q e far on is = record { mid = mid; further = far; before = before; onward = on; stopped = is }
-
 pub refused_later : (o : Opening) (most : Limits) (w mid now : WorkflowView) (p before q : PassView Entry) (e : ReshardFault) → IsFurther w mid
-    → MaySwitch mid → IsOnward o p before
+    → MaySwitch mid → HasSwitchedOn o w p mid before → IsOnward o p before
     → ((e ≡ WrongState) × (MaySwitch mid → ⊥) × (now ≡ mid) × (q ≡ before)) ⊎ (MaySwitch mid × HasStoppedShort o most mid now before q e)
-    → HasStoppedLater o most w now p q e
-refused_later o most w mid now p before q e far may on (inl h) = absurd (h.1 may)
-refused_later o most w mid now p before q e far may on (inr h) = stopped_later o most w mid now p before q e far on h.1.stopped
-
--- a cutover that stopped after the targets came level
-pub stopped_since : (o : Opening) (most : Limits) (w now : WorkflowView) (p since q : PassView Entry) (e : ReshardFault) → IsOnward o p since
-    → HasStoppedLater o most w now since q e → HasStoppedLater o most w now p q e
-stopped_since o most w now p since q e on is = record {
-  mid = is.mid;
-  further = is.further;
-  before = is.before;
-  onward = onward_trans o p since is.before on is.onward;
-  stopped = is.stopped;
-}
+    → HasStoppedOn o most w now p q e
+refused_later o most w mid now p before q e far may steps on (inl h) = absurd (h.1 may)
+refused_later o most w mid now p before q e far may steps on (inr h) =
+    record { mid = mid; further = far; before = before; steps = steps; onward = on; stopped = h.1 }
 
 pub err_as : {X E : Type 0} (r : Result X E) (A B : E → Type 0) → ((e : E) → A e → B e) → IfErr r A → IfErr r B
 err_as (Ok x) A B f is = is

@@ -1,5 +1,5 @@
 -- What the steps of a cutover do to a workflow and to what the controller's pass has seen.
-use Rattle.std.specs.Prelude.{◌≡◌, ℕ, ◌⊎◌, ◌≤◌, ◌+◌, ◌^◌, ◌∷◌, [], true, false, List, length, map, Contains, Some, slice_get, slice_set}
+use Rattle.std.specs.Prelude.{◌≡◌, ℕ, ◌⊎◌, ◌≤◌, ◌+◌, ◌^◌, ◌++◌, ◌∷◌, [], true, false, List, length, map, Contains, Some, slice_get, slice_set}
 use Rattle.std.specs.List.{AllByRecursion}
 use Rattle.vt_value.specs.declared.refusal.Refusal.TheVariants.{OutOfMemory, ShardFull}
 use Rattle.journal.specs.Views.{PassView}
@@ -135,6 +135,18 @@ pub record HaveComeNear (o : Opening) (targets : List TargetWithSources) (p now 
   pub copied : AllByRecursion (HasCopiedAllOf o p at) targets
   pub further : HasMovedOn targets at now
 
+-- steps of the first of the targets that isn't level, and then one that is refused, and nothing else
+pub record HasMovedUntilRefused (targets : List TargetWithSources) (p now : PassView Entry) : Type 0 where
+  pub last : PassView Entry
+  pub moves : HasMovedOn targets p last
+  pub refused : IsNoStepFirst targets last now
+
+-- The targets came near until a step was refused: one of a target in its turn, or, once each had its turn, one of the steps after that.
+pub data HaveComeUntilRefused (targets : List TargetWithSources) (p : PassView Entry) : PassView Entry → Type 0 where
+  coming : {now : PassView Entry} (before after : List TargetWithSources) (t : TargetWithSources) (q : PassView Entry) → targets ≡ before ++ t ∷ after
+      → HaveCome before p q → HasMovedUntilRefused (t ∷ []) q now → HaveComeUntilRefused targets p now
+  further : {now : PassView Entry} (q : PassView Entry) → HaveCome targets p q → HasMovedUntilRefused targets q now → HaveComeUntilRefused targets p now
+
 -- steps of a cutover, one after the other, from one workflow to another, and nothing else
 pub data HasSwitchedOn (o : Opening) (w : WorkflowView) (p : PassView Entry) : WorkflowView → PassView Entry → Type 0 where
   unswitched : HasSwitchedOn o w p w p
@@ -202,13 +214,20 @@ IsFurther w now =
     now
     ≡ record w { stage = now.stage; frozen = now.frozen; retired = now.retired; served = now.served; stored = now.stored; prepared = now.prepared; published = now.published }
 
--- A cutover went on, and then a step of it stopped.
-pub record HasStoppedLater (o : Opening) (most : Limits) (w now : WorkflowView) (p q : PassView Entry) (e : ReshardFault) : Type 0 where
+-- Steps of a cutover were taken, and then one stopped.
+pub record HasStoppedOn (o : Opening) (most : Limits) (w now : WorkflowView) (p q : PassView Entry) (e : ReshardFault) : Type 0 where
   pub mid : WorkflowView
   pub further : IsFurther w mid
   pub before : PassView Entry
+  pub steps : HasSwitchedOn o w p mid before
   pub onward : IsOnward o p before
-  pub stopped : HasStopped o most mid now before q e
+  pub stopped : HasStoppedShort o most mid now before q e
+
+-- A whole cutover stopped, while the targets came near, or, once they had, at one of its steps. Then it was given up.
+pub data HasStoppedLater (o : Opening) (most : Limits) (w now : WorkflowView) (p q : PassView Entry) (e : ReshardFault) : Type 0 where
+  while_coming : (is : HasStopped o most w now p q e) → HaveComeUntilRefused w.targets p is.at → HasStoppedLater o most w now p q e
+  at_step : (near : PassView Entry) → (w.retired ≡ 0 → HaveComeNear o w.targets p near) → IsOnward o p near → HasStoppedOn o most w now near q e
+      → HasStoppedLater o most w now p q e
 
 -- What becomes of a cutover that had begun: it is given up, of which no source was retired; else the steps are taken that are left.
 pub data IsResumed (o : Opening) (w now : WorkflowView) (p q : PassView Entry) : Resumed → Type 0 where

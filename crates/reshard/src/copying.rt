@@ -1,5 +1,5 @@
 //! Before a cutover each target copies all tables of its sources, while these serve.
-ghost use Rattle.std.specs.Prelude.{◌≡◌, ◌≤◌, ◌∷◌, [], IfErr, IsTrue, OnOk, map};
+ghost use Rattle.std.specs.Prelude.{◌≡◌, ◌≤◌, ◌∷◌, [], IfErr, IsTrue, OnOk, OnErr, map};
 ghost use Rattle.std.specs.List.{AllByRecursion};
 ghost use Rattle.shard_run.specs.WellFormed.{is_vschema};
 ghost use Rattle.journal.specs.Runs.{IsLegal};
@@ -9,7 +9,7 @@ ghost use Rattle.reshard_create.specs.FollowSteps.{IsOnward};
 ghost use Rattle.reshard_create.specs.Overlapping.{TakeFromOwn};
 ghost use Rattle.reshard_create.specs.TargetSources.{TargetWithSources};
 ghost use Rattle.reshard_create.specs.FirstMoves.{IsMoveRefusal};
-ghost use Rattle.reshard.specs.Cutover.{HasMovedOn, HaveCome, HasCopiedAllOf};
+ghost use Rattle.reshard.specs.Cutover.{HasMovedOn, HaveCome, HasCopiedAllOf, HasMovedUntilRefused, HaveComeUntilRefused};
 
 use journal::Naming;
 use reshard_create::{ReshardFault, ShardPass, Step, TargetShard, World, entries_left, move_first};
@@ -45,6 +45,7 @@ fn copy_from_sources<W: World, J: Naming>(
     ensures copied { OnOk result (HasCopiedAllOf W.opening pass.old pass.new (target.now.member.which, map (λ s. s.which) target.now.sources.items)) }
     ensures come { OnOk result (HasMovedOn ((target.now.member.which, map (λ s. s.which) target.now.sources.items) ∷ []) pass.old pass.new) }
     ensures refused { IfErr result (λ e. IsMoveRefusal W.opening W.limits ((target.now.member.which, map (λ s. s.which) target.now.sources.items) ∷ []) pass.new (ReshardFault.Refused e)) }
+    ensures until { OnErr result (HasMovedUntilRefused ((target.now.member.which, map (λ s. s.which) target.now.sources.items) ∷ []) pass.old pass.new) }
     ensures onward { IsOnward W.opening pass.old pass.new }
 {
     let one = slice::from_ref(target);
@@ -82,6 +83,7 @@ pub(crate) fn copy_all<W: World, J: Naming>(
         (map {B = TargetWithSources} (λ t. (t.member.which, map (λ s. s.which) t.sources.items)) targets.now)) }
     ensures come { OnOk result (HaveCome (map (λ t. (t.member.which, map (λ s. s.which) t.sources.items)) targets.now) pass.old pass.new) }
     ensures refused { IfErr result (λ e. IsMoveRefusal W.opening W.limits (map (λ t. (t.member.which, map (λ s. s.which) t.sources.items)) targets.now) pass.new (ReshardFault.Refused e)) }
+    ensures until { OnErr result (HaveComeUntilRefused (map (λ t. (t.member.which, map (λ s. s.which) t.sources.items)) targets.now) pass.old pass.new) }
     ensures onward { IsOnward W.opening pass.old pass.new }
 {
     for target in targets {

@@ -4,7 +4,7 @@ ghost use Rattle.shard_run.specs.WellFormed.{is_vschema};
 ghost use Rattle.journal.specs.Runs.{IsLegal};
 ghost use Rattle.reshard_create.specs.Entries.{MayFollow};
 ghost use Rattle.reshard_create.specs.FollowSteps.{IsOnward};
-ghost use Rattle.reshard.specs.Cutover.{HasCutOver, HasFinished, HasSwitchedToTheEnd, IsResumed, HasStoppedLater, MaySwitch};
+ghost use Rattle.reshard.specs.Cutover.{HasCutOver, HasFinished, HasSwitchedToTheEnd, IsResumed, HasStoppedOn, HasStoppedLater, MaySwitch};
 
 use crate::context::WorkflowContext;
 use crate::cutover::CutoverStep;
@@ -65,7 +65,7 @@ impl<W: World, J: Naming> Workflow<W, J> {
         requires home { context.now.serving.now ≡ self.old.keyspace }
         ensures through { OnOk result (HasFinished self.old self.new pass.new) }
         ensures steps { OnOk result (HasSwitchedToTheEnd W.opening self.old self.new pass.old pass.new) }
-        ensures refused { IfErr result (HasStoppedLater W.opening W.limits self.old self.new pass.old pass.new) }
+        ensures refused { IfErr result (HasStoppedOn W.opening W.limits self.old self.new pass.old pass.new) }
         ensures onward { IsOnward W.opening pass.old pass.new }
     {
         for _ in rt.forever() {
@@ -79,7 +79,8 @@ impl<W: World, J: Naming> Workflow<W, J> {
     }
 
     // Promise: A whole cutover, begun while targets follow, ends with each source retired and each target serving in what the pass has
-    // seen, and the next partition published; else it stopped as a step does, with nothing retired, and was given up. If none was retired when it
+    // seen, and the next partition published; else it stopped as a step does, with nothing retired, and was given up: it did all that is told here up to
+    // the step of a target, or of the cutover, that was refused, and nothing else. If none was retired when it
     // began, all that it does until the first freeze is steps of targets with their sources, by which each target copies all tables of each of its
     // sources, unless these are written faster than it follows: then it followed 65,536 entries one after the other, and was never level between
     // them. Then come the steps of the cutover, and after them one look at each source and at each target, and nothing else. That the targets come

@@ -1,5 +1,5 @@
 //! The targets copy all of their sources, and come level, before a cutover freezes these, so that writes wait for little.
-ghost use Rattle.std.specs.Prelude.{◌≡◌, IfErr, IsTrue, OnOk, map};
+ghost use Rattle.std.specs.Prelude.{◌≡◌, IfErr, IsTrue, OnOk, OnErr, map};
 ghost use Rattle.shard_run.specs.WellFormed.{is_vschema};
 ghost use Rattle.journal.specs.Runs.{IsLegal};
 ghost use Rattle.shard_run.specs.Openings.{IsOpening};
@@ -7,7 +7,7 @@ ghost use Rattle.reshard_create.specs.Entries.{MayFollow};
 ghost use Rattle.reshard_create.specs.FollowSteps.{IsOnward};
 ghost use Rattle.reshard_create.specs.Overlapping.{TakeFromOwn};
 ghost use Rattle.reshard_create.specs.FirstMoves.{IsMoveRefusal};
-ghost use Rattle.reshard.specs.Cutover.{HasMovedOn, HaveComeNear, HasStopped};
+ghost use Rattle.reshard.specs.Cutover.{HasMovedOn, HaveComeNear, HasMovedUntilRefused, HaveComeUntilRefused, HasStopped};
 
 use crate::context::WorkflowContext;
 use crate::copying::{copy_all, most_followed};
@@ -44,6 +44,7 @@ fn come_level<W: World, J: Naming>(
     requires legal { IsLegal (MayFollow W.opening) pass.old.seen }
     ensures further { OnOk result (HasMovedOn (map (λ t. (t.member.which, map (λ s. s.which) t.sources.items)) targets.now) pass.old pass.new) }
     ensures refused { IfErr result (λ e. IsMoveRefusal W.opening W.limits (map (λ t. (t.member.which, map (λ s. s.which) t.sources.items)) targets.now) pass.new (ReshardFault.Refused e)) }
+    ensures until { OnErr result (HasMovedUntilRefused (map (λ t. (t.member.which, map (λ s. s.which) t.sources.items)) targets.now) pass.old pass.new) }
     ensures onward { IsOnward W.opening pass.old pass.new }
 {
     let mut left = most;
@@ -77,6 +78,7 @@ fn come_near<W: World, J: Naming>(
     requires legal { IsLegal (MayFollow W.opening) pass.old.seen }
     ensures near { OnOk result (HaveComeNear W.opening (map (λ t. (t.member.which, map (λ s. s.which) t.sources.items)) targets.now) pass.old pass.new) }
     ensures refused { IfErr result (λ e. IsMoveRefusal W.opening W.limits (map (λ t. (t.member.which, map (λ s. s.which) t.sources.items)) targets.now) pass.new (ReshardFault.Refused e)) }
+    ensures until { OnErr result (HaveComeUntilRefused (map (λ t. (t.member.which, map (λ s. s.which) t.sources.items)) targets.now) pass.old pass.new) }
     ensures onward { IsOnward W.opening pass.old pass.new }
 {
     copy_all(rt, alloc, pass, schema, targets)?;
@@ -99,7 +101,7 @@ impl<W: World, J: Naming> Workflow<W, J> {
         requires legal { IsLegal (MayFollow W.opening) pass.old.seen }
         ensures near { OnOk result (self.old.retired ≡ 0 → HaveComeNear W.opening self.old.targets pass.old pass.new) }
         ensures same { OnOk result (self.new ≡ self.old) }
-        ensures refused { IfErr result (HasStopped W.opening W.limits self.old self.new pass.old pass.new) }
+        ensures refused { IfErr result (λ e. (is : HasStopped W.opening W.limits self.old self.new pass.old pass.new e) × HaveComeUntilRefused self.old.targets pass.old is.at) }
         ensures onward { IsOnward W.opening pass.old pass.new }
     {
         if self.retired > 0 {

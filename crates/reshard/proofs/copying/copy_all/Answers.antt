@@ -8,7 +8,8 @@ use Rattle.reshard_create.proofs.Retiring.{item_of, map_at}
 use Rattle.reshard_create.proofs.Onward.{still, onward_trans}
 use Rattle.reshard_create.proofs.Residual.{residual_same}
 use Rattle.reshard.specs.Cutover.{HasMovedOn, HaveCome, HasCopiedAllOf}
-use Rattle.reshard.proofs.AllCopied.{among, refused_one, copied_next, turn_next, all_of}
+use Rattle.reshard.proofs.AllCopied.{among, refused_one, copied_next, turn_next, come_until, all_of}
+use Rattle.reshard.proofs.Switches.{on_refusal}
 use Rattle.reshard.proofs.copying.copy_all.Goals as goal
 
 pub loop-target-init : goal.loop-target-init
@@ -62,3 +63,10 @@ pub returns-clause-come : goal.returns-clause-come
 returns-clause-come g c =
     subst (λ l. HaveCome (map (λ t. (t.member.which, map (λ s. s.which) t.sources.items)) l) c.args.pass.now c.loop-target.pass)
     (all_of c.args.targets.now c.loop-target.target-index c.loop-target-test.false) c.loop-target.invariant.come
+
+pub returns-in_err-copy_from_sources-clause-until : goal.returns-in_err-copy_from_sources-clause-until
+returns-in_err-copy_from_sources-clause-until g c =
+    on_refusal c.from_residual.result _
+    (come_until (λ t. (t.member.which, map (λ s. s.which) t.sources.items)) c.args.targets.now c.loop-target.target-index c.target-item.result
+    c.loop-target-test.true c.target-item.is c.args.pass.now c.loop-target.pass c.copy_from_sources.new.pass c.loop-target.invariant.come
+    c.in_err-copy_from_sources.ensures.until)

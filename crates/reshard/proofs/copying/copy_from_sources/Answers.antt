@@ -1,10 +1,11 @@
 use Rattle.std.proofs.Common.{◌≡◌, inl, [], ◌∷◌, map, rules, refl, subst, arith}
 use Rattle.reshard_create.specs.Step.TheVariants.{Followed, Level}
-use Rattle.reshard_create.specs.FirstMoves.{HasMovedFirst, IsOneStepFirst}
+use Rattle.reshard_create.specs.FirstMoves.{HasMovedFirst, IsOneStepFirst, IsNoStepFirst}
 use Rattle.reshard_create.proofs.Moving.{with_after}
 use Rattle.reshard_create.proofs.Onward.{still, onward_trans}
 use Rattle.reshard.specs.Cutover as cut
 use Rattle.reshard.proofs.AllCopied.{level_one, counted_none, counted_more, outrun}
+use Rattle.reshard.proofs.Switches.{on_refusal}
 use Rattle.reshard.proofs.copying.copy_from_sources.Goals as goal
 
 pub loop-init : goal.loop-init
@@ -84,3 +85,14 @@ loop-preserved g c =
           (subst (λ l. IsOneStepFirst (map (λ t. (t.member.which, map (λ s. s.which) t.sources.items)) l) c.loop.pass c.move_first.new.pass c.in_ok-move_first.field-0)
           c.from_ref-one.ensures.value c.in_ok-move_first.ensures.once);
     }
+
+pub returns-in_err-move_first-clause-until : goal.returns-in_err-move_first-clause-until
+returns-in_err-move_first-clause-until g c =
+    on_refusal c.from_residual.result _
+    (record {
+      last = c.loop.pass;
+      moves = c.loop.invariant.come;
+      refused =
+          subst (λ l. IsNoStepFirst (map (λ t. (t.member.which, map (λ s. s.which) t.sources.items)) l) c.loop.pass c.move_first.new.pass)
+          c.from_ref-one.ensures.value c.in_err-move_first.ensures.nothing;
+    })

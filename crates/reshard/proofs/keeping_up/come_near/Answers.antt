@@ -1,6 +1,8 @@
 use Rattle.std.proofs.lemmas.Result.{on_ok_weaker}
 use Rattle.reshard_create.proofs.Onward.{onward_trans}
 use Rattle.reshard_create.proofs.Residual.{residual_same}
+use Rattle.reshard.specs.Cutover as cut
+use Rattle.reshard.proofs.Switches.{on_refusal, refusal_weaker}
 use Rattle.reshard.proofs.keeping_up.come_near.Goals as goal
 
 pub returns-in_err-copy_all-clause-refused : goal.returns-in_err-copy_all-clause-refused
@@ -20,3 +22,10 @@ returns-clause-near g c =
 pub returns-clause-onward : goal.returns-clause-onward
 returns-clause-onward g c =
     onward_trans g.W.World.opening c.args.pass.now c.copy_all.new.pass c.come_level.new.pass c.copy_all.ensures.onward c.come_level.ensures.onward
+
+pub returns-in_err-copy_all-clause-until : goal.returns-in_err-copy_all-clause-until
+returns-in_err-copy_all-clause-until g c = on_refusal c.from_residual.result _ c.in_err-copy_all.ensures.until
+
+pub returns-clause-until : goal.returns-clause-until
+returns-clause-until g c =
+    refusal_weaker c.come_level.result _ _ (λ h. cut.further c.copy_all.new.pass c.in_ok-copy_all.ensures.come h) c.come_level.ensures.until

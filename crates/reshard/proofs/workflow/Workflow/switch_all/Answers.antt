@@ -22,7 +22,7 @@ pub returns-in_err-step-clause-refused : goal.returns-in_err-step-clause-refused
 returns-in_err-step-clause-refused g c =
     residual_same c.from_residual.result c.in_err-step.field-0.0 _ c.from_residual.ensures.1
     (refused_later g.W.World.opening g.W.World.limits c.args.self.now c.loop.self c.switch_step.new.self c.args.pass.now c.loop.pass c.switch_step.new.pass
-    c.in_err-step.field-0.0 c.loop.invariant.further c.loop.invariant.may c.loop.invariant.onward c.in_err-step.ensures.refused)
+    c.in_err-step.field-0.0 c.loop.invariant.further c.loop.invariant.may c.loop.invariant.steps c.loop.invariant.onward c.in_err-step.ensures.refused)
 
 pub returns-then-eq-clause-through : goal.returns-then-eq-clause-through
 returns-then-eq-clause-through g c =

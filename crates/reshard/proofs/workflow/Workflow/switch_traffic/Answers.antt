@@ -2,25 +2,19 @@ use Rattle.std.proofs.Common.{rules, ◌≡◌, inl, inr, ap, ◌∙◌, subst}
 use Rattle.std.specs.Prelude.{OnOk}
 use Rattle.reshard.specs.declared.workflow.Stage.TheVariants.{Following}
 use Rattle.reshard.specs.Workflows.{WorkflowView}
-use Rattle.reshard.specs.Cutover.{HasFinished, HasSwitchedToTheEnd, HasStoppedLater}
-use Rattle.reshard_create.proofs.Onward.{still, onward_trans}
+use Rattle.reshard.specs.Cutover.{HasFinished, HasSwitchedToTheEnd, HasStoppedOn}
+use Rattle.reshard.specs.Cutover as cut
+use Rattle.reshard_create.proofs.Onward.{onward_trans}
 use Rattle.reshard_create.proofs.Residual.{residual_same}
-use Rattle.reshard.proofs.Through.{further_still, stopped_later, stopped_since, err_as}
+use Rattle.reshard.proofs.Through.{err_as}
 use Rattle.std.proofs.lemmas.Result.{on_ok_weaker}
 use Rattle.reshard.proofs.workflow.Workflow.switch_traffic.Goals as goal
 
 pub returns-in_err-keep_up-clause-refused : goal.returns-in_err-keep_up-clause-refused
 returns-in_err-keep_up-clause-refused g c =
-    let o = g.W.World.opening in
-    let w = c.args.self.now in
-    let p = c.args.pass.now in
-    let was : w.stage ≡ Following = search rules in
-    residual_same c.from_residual.result c.in_err-keep_up.field-0.0 _ c.from_residual.ensures.1
-    (inr (
-      was,
-      stopped_later o g.W.World.limits w w c.keep_up.new.self p p c.keep_up.new.pass c.in_err-keep_up.field-0.0 (further_still w) (still o p c.requires.legal)
-          c.in_err-keep_up.ensures.refused,
-    ))
+    let was : c.args.self.now.stage ≡ Following = search rules in
+    let h = c.in_err-keep_up.ensures.refused in
+    residual_same c.from_residual.result c.in_err-keep_up.field-0.0 _ c.from_residual.ensures.1 (inr (was, cut.while_coming h.0 h.1))
 
 pub switch_all-requires-clause-may : goal.switch_all-requires-clause-may
 switch_all-requires-clause-may g c =
@@ -42,8 +36,8 @@ returns-clause-refused g c =
     err_as c.switch_all.result _ _
     (λ e h. inr (
       was,
-      stopped_since o g.W.World.limits c.args.self.now now c.args.pass.now mid q e c.keep_up.ensures.onward
-          (subst (λ (w : WorkflowView). HasStoppedLater o g.W.World.limits w now mid q e) c.in_ok-keep_up.ensures.same h),
+      cut.at_step mid c.in_ok-keep_up.ensures.near c.keep_up.ensures.onward
+          (subst (λ (w : WorkflowView). HasStoppedOn o g.W.World.limits w now mid q e) c.in_ok-keep_up.ensures.same h),
     )) c.switch_all.ensures.refused
 
 pub returns-clause-onward : goal.returns-clause-onward

@@ -9,7 +9,10 @@ use Rattle.shard.proofs.state.ShardState.begun.Goals as goal
 pub returns-clause-begun : goal.returns-clause-begun
 returns-clause-begun g c =
     let r = c.in_ok-reading.ensures in
-    answered (read (record { serves = r.serves; few = r.few; allowed = r.rows; count = r.entries ∙ c.requires.entries }))
+    let is = serves_is g.W.World.opening g.W.World.limits c.self.inside.seat.seen c.self.inside.contents c.self.invariant.0.keeps in
+    let view = ap (λ (v : ShardView). answers_queries (mode g.W.World.opening v.seen v.shard.slot)) c.self.view_is in
+    let serves = sym view ∙ sym is ∙ sym c.serves.ensures ∙ c.if-not-serves.false in
+    answered (read (record { serves = serves; few = r.few; allowed = r.rows; count = r.entries ∙ c.requires.entries }))
 
 pub returns-then-scans-clause-begun : goal.returns-then-scans-clause-begun
 returns-then-scans-clause-begun g c = begun c.in_ok-snapshot.ensures.snapshot
