@@ -26,7 +26,9 @@ use test_fields::Unanswered;
 use vschema::VSchema;
 use vt_value::Refusal;
 use vtgate_serve::setup::ServeArgs;
-use vtgate_serve::{Gate, Ports, ServeConfig, ShardLaw, World, Writer, config_of, serve_opened};
+use vtgate_serve::{
+    BoundPort, Gate, Ports, ServeConfig, ShardLaw, World, Writer, config_of, serve_opened,
+};
 
 /// The sharded keyspace `shop` with the table t.
 const SHOP: &str =
@@ -216,9 +218,9 @@ enum Scene {
     Passwords,
 }
 
-fn addresses_of(ports: &Ports) -> io::Result<Addresses> {
-    let clients = ports.clients.local_addr()?;
-    let admin = ports.admin.local_addr()?;
+fn addresses_of(ports: &Ports<'_>) -> io::Result<Addresses> {
+    let clients = ports.clients.listener().local_addr()?;
+    let admin = ports.admin.listener().local_addr()?;
     Ok(Addresses { clients, admin })
 }
 
@@ -246,9 +248,11 @@ fn be_clients<R: Net<Listener = TcpListener, Stream = TcpStream>>(
     }
 }
 
-fn bind_ports<R: Net<Listener = TcpListener, Stream = TcpStream>>(rt: &R) -> io::Result<Ports> {
-    let clients = TcpListener::bind(rt, "127.0.0.1:0")?;
-    let admin = TcpListener::bind(rt, "127.0.0.1:0")?;
+fn bind_ports<R: Net<Listener = TcpListener, Stream = TcpStream>>(
+    rt: &R,
+) -> io::Result<Ports<'static>> {
+    let clients = BoundPort::bind(rt, "127.0.0.1:0")?;
+    let admin = BoundPort::bind(rt, "127.0.0.1:0")?;
     Ok(Ports { clients, admin })
 }
 

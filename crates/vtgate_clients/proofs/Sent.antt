@@ -30,7 +30,8 @@ use Rattle.vtgate_clients.proofs.progress.ServeProgress.TheSendSync as progress
 use Rattle.vtgate_clients.specs.contracts.acceptor.Acceptor as acceptor
 use Rattle.vtgate_clients.specs.contracts.client.ClientDevice as client
 use Rattle.vtgate_clients.specs.contracts.client.Traffic as traffic
-use Rattle.vtgate_clients.specs.contracts.client.ClientDeviceDevice.TheImpl as device
+use Rattle.vtgate_clients.specs.contracts.socket.SocketDevice as socket
+use Rattle.vtgate_clients.proofs.socket.SocketDevice.TheSendSync as sent_socket
 use Rattle.vtgate_clients.specs.contracts.server.Server as server
 use Rattle.vtgate_clients.specs.contracts.turns.Talking as talking
 use Rattle.vtgate_clients.specs.contracts.turns.Talk as talk
@@ -62,11 +63,11 @@ module _ (W J : RattleType) (w : world.Ghosts W.Denot) (j : naming.Ghosts J.Deno
       (struct_send (shape (acceptor.the_type ℓ W J j w)) (shr_send _ _ _ listener.the_sync, (opener_send, (looking_send, (shr_send _ _ _ progress.the_sync, search (instant.the_send, std.crosses, sendable))))))
 
 module _ (R : RattleType) (shared : IsSync R) where
-  client_send : (ℓ : _) → IsSend (client.the_row ℓ R)
+  client_send : (ℓ : _) → IsSend (client.the_row ℓ R socket.the_row)
   client_send ℓ =
-      recorded_send (client.the_field ℓ R).row _ _ (client.the_type ℓ R).to_one
-      (struct_send (shape (client.the_type ℓ R))
-      (shr_send _ _ _ shared, (stream.the_field_send, (search (sent_traffic.the_send, std.crosses, sendable), (search sendable, (search (std.crosses, sendable), (search (std.crosses, sendable), tt)))))))
+      recorded_send (client.the_field ℓ R socket.the_row).row _ _ (client.the_type ℓ R socket.the_row).to_one
+      (struct_send (shape (client.the_type ℓ R socket.the_row))
+      (shr_send _ _ _ shared, (sent_socket.the_field_send, (search (sent_traffic.the_send, std.crosses, sendable), (search (std.crosses, sendable), (search (std.crosses, sendable), (search (std.crosses, sendable), tt)))))))
 
 module _ (W J R : RattleType) (w : world.Ghosts W.Denot) (j : naming.Ghosts J.Denot) (l : log.Ghosts R.Denot) (k : clock.Ghosts R.Denot) (shared : IsSync R) where
   talking_send : (ℓ : _) → IsSend (talking.the_row ℓ W J R j l w k)
@@ -80,7 +81,7 @@ module _ (W J R : RattleType) (w : world.Ghosts W.Denot) (j : naming.Ghosts J.De
             address.the_field_send,
             (
               search (instant.the_send, std.crosses, sendable),
-              (conversation_send W J (client.the_row ℓ R) w j _ (client_send R shared ℓ), (search (std.crosses, sendable) depth 60 fits 20000, tt)),
+              (conversation_send W J (client.the_row ℓ R socket.the_row) w j _ (client_send R shared ℓ), (search (std.crosses, sendable) depth 60 fits 20000, tt)),
             ),
           ),
         ),

@@ -1,4 +1,5 @@
 //! How many connections there are, and how many there may be.
+ghost use Rattle.std.specs.Prelude.{◌≡◌, ◌<◌, ◌+◌, ◌↔◌, true, false};
 
 use libc::types::rlimit;
 use std::sync::atomic::{AtomicU64, Ordering};
@@ -24,6 +25,19 @@ pub fn descriptors() -> u32 {
     }
 }
 
+// Promise: As many connections may come as there are places, and the last place is kept for an operator
+/// Whether one more connection may come if there are so many, and so many places.
+pub fn has_room(live: u64, most: u64, is_operator: bool) -> bool
+    ensures operator { is_operator ≡ true → ((result ≡ true) ↔ (live < most)) }
+    ensures other { is_operator ≡ false → ((result ≡ true) ↔ (live + 1 < most)) }
+{
+    if is_operator {
+        live < most
+    } else {
+        live < most.saturating_sub(1)
+    }
+}
+
 /// How many connections wait for a worker, how many there are, and how many there may be.
 #[derive(Drop)]
 pub struct Arrivals {
@@ -44,8 +58,7 @@ impl Arrivals {
 
     /// Whether one more connection may come. The last place is kept for an operator, who connects over the loopback.
     pub fn may_come(&self, is_operator: bool) -> bool {
-        let live = self.live();
-        live < self.most.saturating_sub(1) || (is_operator && live < self.most)
+        has_room(self.live(), self.most, is_operator)
     }
 
     /// Says that one more came, and waits for a worker.

@@ -16,19 +16,24 @@ mod progress;
 pub mod schema_faults;
 mod server;
 pub mod setup;
+mod socket;
 mod statements;
+mod streams;
 mod turns;
 mod welcome;
 mod workers;
 
 pub use acceptor::Acceptor;
 pub use admission::{Admission, admission_of};
+pub use arrivals::has_room;
 pub use connection::{begin_connection, serve_connection};
-pub use listening::{Ports, ServeConfig, bind, config_of, last_connection};
+pub use listening::{BoundPort, Ports, ServeConfig, bind, config_of, last_connection};
 pub use progress::ServeProgress;
 pub use server::Server;
 pub use session::{
-    Access, Core, DeviceFailed, End, Reader, SessionFault, ShownRows, Sink, Source, Writer, serve,
+    Access, Conversation, Core, Device, DeviceFailed, End, Reader, SessionFault, ShownRows, Sink,
+    Source, Writer, serve,
 };
 pub use shard::{ShardLaw, ShardPass, World};
+pub use streams::{is_passing, read_for_now, write_for_now};
 pub use workers::{can_start, serve_clients};

@@ -9,6 +9,7 @@ use crate::setup::{FAILURE, RunFault, ServeArgs};
 use libc::net as c;
 use log::Log;
 use std::alloc::Global;
+use std::io;
 use std::net::{Net, TcpListener, TcpStream};
 use std::os::fd::AsRawFd;
 
@@ -16,11 +17,41 @@ use std::os::fd::AsRawFd;
 /// greeting for ever.
 const BACKLOG: i32 = 4096;
 
+/// A port that is bound, and the address to which it is.
+#[derive(Drop)]
+pub struct BoundPort<'s> {
+    listener: TcpListener,
+    address: &'s str,
+}
+
+impl<'s> BoundPort<'s> {
+    /// Binds an address.
+    pub fn bind<R: Net<Listener = TcpListener, Stream = TcpStream>>(
+        rt: &R,
+        address: &'s str,
+    ) -> io::Result<BoundPort<'s>>
+        ensures { IfOk result (λ port. port.address.now ≡ address.now) }
+    {
+        match TcpListener::bind(rt, address) {
+            Ok(listener) => {
+                lengthen_backlog(&listener);
+                Ok(BoundPort { listener, address })
+            }
+            Err(reason) => Err(reason),
+        }
+    }
+
+    /// Where its clients come in.
+    pub fn listener(&self) -> &TcpListener {
+        &self.listener
+    }
+}
+
 /// The two ports, bound.
 #[derive(Drop)]
-pub struct Ports {
-    pub clients: TcpListener,
-    pub admin: TcpListener,
+pub struct Ports<'s> {
+    pub clients: BoundPort<'s>,
+    pub admin: BoundPort<'s>,
 }
 
 // Has the system keep more connections that wait until they are accepted, as many as it does for any socket (net.core.somaxconn). It doesn't matter
@@ -30,18 +61,16 @@ fn lengthen_backlog(listener: &TcpListener) {
 }
 
 // Binds one port.
-fn bind_port<R: Log + Net<Listener = TcpListener, Stream = TcpStream>>(
+fn bind_port<'s, R: Log + Net<Listener = TcpListener, Stream = TcpStream>>(
     rt: &R,
     port: &'static str,
-    address: &str,
-) -> Result<TcpListener, RunFault>
+    address: &'s str,
+) -> Result<BoundPort<'s>, RunFault>
+    ensures address { IfOk result (λ port. port.address.now ≡ address.now) }
     ensures fault { IfErr result (λ f. status_of f ≡ FAILURE) }
 {
-    match TcpListener::bind(rt, address) {
-        Ok(listener) => {
-            lengthen_backlog(&listener);
-            Ok(listener)
-        }
+    match BoundPort::bind(rt, address) {
+        Ok(bound) => Ok(bound),
         Err(reason) => {
             events::unbound(rt, port, address, &reason);
             Err(RunFault::CannotBind)
@@ -49,16 +78,18 @@ fn bind_port<R: Log + Net<Listener = TcpListener, Stream = TcpStream>>(
     }
 }
 
-/// Binds both ports.
-pub fn bind<R: Log + Net<Listener = TcpListener, Stream = TcpStream>>(
+// Promise: The clients' port is bound to the address that the words give for it, and the admin port to the other
+/// Binds both ports, as the words ask.
+pub fn bind<'s, R: Log + Net<Listener = TcpListener, Stream = TcpStream>>(
     rt: &R,
-    address: &str,
-    admin: &str,
-) -> Result<Ports, RunFault>
+    asked: &ServeArgs<'s>,
+) -> Result<Ports<'s>, RunFault>
+    ensures clients { IfOk result (λ ports. ports.clients.address.now ≡ asked.now.address) }
+    ensures admin { IfOk result (λ ports. ports.admin.address.now ≡ asked.now.admin) }
     ensures fault { IfErr result (λ f. status_of f ≡ FAILURE) }
 {
-    let clients = bind_port(rt, "clients", address)?;
-    let admin = bind_port(rt, "admin", admin)?;
+    let clients = bind_port(rt, "clients", asked.address)?;
+    let admin = bind_port(rt, "admin", asked.admin)?;
     Ok(Ports { clients, admin })
 }
 
@@ -66,14 +97,14 @@ pub fn bind<R: Log + Net<Listener = TcpListener, Stream = TcpStream>>(
 #[derive(Drop)]
 pub struct ServeConfig<'s> {
     pub admission: Admission<'s>,
-    pub ports: Ports,
+    pub ports: Ports<'s>,
 }
 
 /// What a server needs that serves on the ports.
 pub fn config_of<'s>(
     alloc: Global,
     asked: &'s ServeArgs<'s>,
-    ports: Ports,
+    ports: Ports<'s>,
 ) -> Result<ServeConfig<'s>, RunFault>
     ensures asked { IfOk result (λ s. s.admission.asked.now ≡ asked.now) }
     ensures fault { IfErr result (λ f. status_of f ≡ FAILURE) }

@@ -8,6 +8,7 @@ use crate::client::ClientDevice;
 use crate::events;
 use crate::events::Passed;
 use crate::server::Server;
+use crate::socket::SocketDevice;
 use crate::statements::tell_statements;
 use connection_workers::{Connected, Turned, Wanted};
 use journal::Naming;
@@ -63,7 +64,7 @@ struct Talking<'s, W: World, J: Naming, R: Clock + Log> {
     number: u32,
     peer: SocketAddr,
     start: Option<Instant>,
-    conversation: Conversation<W, J, ClientDevice<'s, R>>,
+    conversation: Conversation<W, J, ClientDevice<'s, R, SocketDevice>>,
     stage: Stage,
     // Promise: Whatever turns a connection's workers take, its client was greeted as the connection of this number, as the words ask
     ghost greeted: { conversation.handshake ≡ handshake_of admission.now.asked.now number },
@@ -113,7 +114,7 @@ impl<'s, W: World, J: Naming, R: Clock + Log> Talk<'s, W, J, R> {
         arrivals: &'s Arrivals,
         number: u32,
         peer: SocketAddr,
-        conversation: Conversation<W, J, ClientDevice<'s, R>>,
+        conversation: Conversation<W, J, ClientDevice<'s, R, SocketDevice>>,
     ) -> Talk<'s, W, J, R>
         requires greeted { conversation.handshake ≡ handshake_of admission.now.asked.now number }
     {

@@ -3,6 +3,7 @@
 use crate::client::ClientDevice;
 use crate::connection::{Connection, begin_connection};
 use crate::server::Server;
+use crate::socket::SocketDevice;
 use crate::turns::Talk;
 use journal::Naming;
 use log::{Level, Log, log_enabled};
@@ -33,7 +34,7 @@ pub fn welcome<'s, W: World + Send + Sync, J: Naming + Send + Sync, G: Gate, R: 
     let arrivals = &server.progress.arrivals;
     arrivals.begin();
     let (number, stream, peer, pass) = connection.into_parts();
-    let device = ClientDevice::new(rt, alloc, stream, detail_of(rt));
+    let device = ClientDevice::new(rt, alloc, SocketDevice::new(stream), detail_of(rt));
     match begin_connection(alloc, admission, pass, number, device) {
         Ok(conversation) => Talk::new(rt, alloc, admission, arrivals, number, peer, conversation),
         Err(_) => Talk::over(rt, alloc, arrivals),

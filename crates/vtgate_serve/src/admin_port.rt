@@ -1,21 +1,21 @@
 //! The admin port.
-ghost use Rattle.std.specs.Prelude.{◌≡◌, ◌≤◌, None, IfOk, length};
-ghost use Rattle.std.specs.Io.{ReadsAtMost};
+ghost use Rattle.std.specs.Prelude.{◌≡◌};
+ghost use Rattle.std.specs.Io.{ReadsAtMost, WritesAtMost};
+ghost use Rattle.std.specs.Io.KnownBytes.{ReadConsumes, WriteAppends};
 ghost use Rattle.shard_run.specs.opening.Empty.{sharded_keyspace};
 ghost use Rattle.admin.specs.AdminAnswers.{keyspace_of};
 
 use crate::admin_client::talk;
-use crate::waits::is_made_again;
 use admin::{Administrator, Gate};
 use buffer::Buffer;
 use journal::Naming;
 use log::Log;
-use std::io::{Read, Write};
+use std::io::{ErrorKind, Read, Write};
 use std::net::{TcpListener, TcpStream};
 use std::sync::{Mutex, Wait};
-use std::thread;
 use std::time::{Clock, Duration};
-use vtgate_clients::{DeviceFailed, ServeProgress, Server, ShardPass, Sink, Source, World};
+use std::{io, thread};
+use vtgate_clients::{Reader, ServeProgress, Server, ShardPass, World, Writer, is_passing};
 
 /// How long it sleeps between two looks for a client, in milliseconds.
 const BETWEEN_LOOKS: u64 = 20;
@@ -74,124 +74,94 @@ impl<R: Wait> Port<'_, R> {
     }
 }
 
-/// Reads from a client of the admin port, until all is served.
+/// The stream of a client of the admin port, which is waited for until all is served.
 #[derive(Drop)]
-struct Lines<'s, R> {
+struct Waiting<'s, R, S> {
     port: &'s Port<'s, R>,
-    stream: &'s TcpStream,
-    failures: u64,
+    stream: S,
+}
+
+// The client isn't waited for any longer.
+fn given_up() -> io::Error {
+    io::Error::from(ErrorKind::TimedOut)
 }
 
 // Reads, unless all is served, the client says nothing for too long, or it gives way.
-fn read_until<R: Wait>(
+#[tactic(auto, using(crate::proofs::Streaming::kept_on, crate::proofs::Streaming::kept_read))]
+fn read_until<R: Wait, S: Read>(
     port: &Port<'_, R>,
-    mut stream: &TcpStream,
+    stream: &mut S,
     buffer: &mut [u8],
-) -> Result<usize, DeviceFailed>
-    ensures { ReadsAtMost result buffer.new }
+) -> io::Result<usize>
+    ensures bound { ReadsAtMost result buffer.new }
+    ensures bytes { ReadConsumes (S.remaining stream.old) (S.remaining stream.new) result buffer.new }
 {
     for _ in 0..SILENT_READS {
         if !port.progress.is_under_way() {
-            return Err(DeviceFailed);
+            return Err(given_up());
         }
         match stream.read(buffer) {
             Ok(n) => return Ok(n),
             Err(error) => {
-                if !is_made_again(error.kind()) || port.gives_way() {
-                    return Err(DeviceFailed);
+                if !is_passing(error.kind()) || port.gives_way() {
+                    return Err(given_up());
                 }
             }
         }
     }
-    Err(DeviceFailed)
+    Err(given_up())
 }
 
-impl<R: Wait + Clock> Source for Lines<'_, R> {
-    ghost unread = { λ _. None };
+impl<R: Wait + Clock, S: Read> Read for Waiting<'_, R, S> {
+    ghost remaining = { λ w. S.remaining w.stream };
 
-    ghost failures = { λ s. s.failures };
-
-    fn read(&mut self, buffer: &mut [u8]) -> Result<usize, DeviceFailed> {
+    fn read(&mut self, buffer: &mut [u8]) -> io::Result<usize> {
         let progress = self.port.progress;
         progress.end_switch();
-        match read_until(self.port, self.stream, buffer) {
-            Ok(n) => {
-                if buffer[..n].starts_with(SWITCH) {
-                    progress.begin_switch(self.port.rt);
-                }
-                Ok(n)
-            }
-            Err(_) => {
-                self.failures = self.failures.wrapping_add(1);
-                Err(DeviceFailed)
-            }
+        let n = read_until(self.port, &mut self.stream, buffer)?;
+        if buffer[..n].starts_with(SWITCH) {
+            progress.begin_switch(self.port.rt);
         }
+        Ok(n)
     }
-}
-
-/// Writes to a client of the admin port, until all is served.
-#[derive(Drop)]
-struct Answers<'s, R> {
-    port: &'s Port<'s, R>,
-    stream: &'s TcpStream,
-    failures: u64,
 }
 
 // Writes some of the bytes, unless all is served, the client takes nothing for too long, or it gives way, and returns how many.
-fn write_some<R: Wait>(
+#[tactic(auto, using(crate::proofs::Streaming::kept_on, crate::proofs::Streaming::kept_write))]
+fn write_some<R: Wait, S: Write>(
     port: &Port<'_, R>,
-    mut stream: &TcpStream,
+    stream: &mut S,
     bytes: &[u8],
-) -> Result<usize, DeviceFailed>
-    ensures { IfOk result (λ n. n ≤ length bytes.now) }
+) -> io::Result<usize>
+    ensures bound { WritesAtMost result bytes.now }
+    ensures bytes { WriteAppends (S.contents stream.old) (S.contents stream.new) result bytes.now }
 {
     for _ in 0..STUCK_WRITES {
         match stream.write(bytes) {
-            Ok(0) => return Err(DeviceFailed),
             Ok(n) => return Ok(n),
             Err(error) => {
-                if !is_made_again(error.kind()) || port.gives_way() {
-                    return Err(DeviceFailed);
+                if !is_passing(error.kind()) || port.gives_way() {
+                    return Err(given_up());
                 }
             }
         }
         if !port.progress.is_under_way() {
-            return Err(DeviceFailed);
+            return Err(given_up());
         }
     }
-    Err(DeviceFailed)
+    Err(given_up())
 }
 
-fn write_until<R: Wait>(
-    port: &Port<'_, R>,
-    stream: &TcpStream,
-    bytes: &[u8],
-) -> Result<(), DeviceFailed> {
-    let mut rest = bytes;
-    for _ in 0..u64::MAX {
-        if rest.is_empty() {
-            return Ok(());
-        }
-        let n = write_some(port, stream, rest)?;
-        rest = &rest[n..];
-    }
-    Err(DeviceFailed)
-}
+impl<R: Wait, S: Write> Write for Waiting<'_, R, S> {
+    ghost contents = { λ w. S.contents w.stream };
 
-impl<R: Wait> Sink for Answers<'_, R> {
-    ghost taken = { λ _. None };
-
-    ghost failures = { λ s. s.failures };
-
-    fn write(&mut self, bytes: &[u8]) -> Result<(), DeviceFailed> {
+    fn write(&mut self, bytes: &[u8]) -> io::Result<usize> {
         self.port.progress.end_switch();
-        match write_until(self.port, self.stream, bytes) {
-            Ok(()) => Ok(()),
-            Err(_) => {
-                self.failures = self.failures.wrapping_add(1);
-                Err(DeviceFailed)
-            }
-        }
+        write_some(self.port, &mut self.stream, bytes)
+    }
+
+    fn flush(&mut self) -> io::Result<()> {
+        Ok(())
     }
 }
 
@@ -210,16 +180,8 @@ fn serve_one<W: World + Send + Sync, J: Naming + Send + Sync, G: Gate, R: Wait +
     let _ = stream.set_nodelay(true);
     let _ = stream.set_read_timeout(Some(patience));
     let _ = stream.set_write_timeout(Some(patience));
-    let mut source = Lines {
-        port,
-        stream,
-        failures: 0,
-    };
-    let mut sink = Answers {
-        port,
-        stream,
-        failures: 0,
-    };
+    let mut source = Reader::new(Waiting { port, stream });
+    let mut sink = Writer::new(Waiting { port, stream });
     let _ = talk(
         server.rt,
         server.alloc,

@@ -8,12 +8,11 @@ mod ports;
 pub mod script;
 mod serve;
 pub mod setup;
-mod waits;
 
 pub use admin::{Engine, Gate, Open, router};
 pub use admin_client::{BrokenOff, LONGEST_LINE, talk};
 pub use serve::{run_serve, serve_opened};
 pub use vtgate_clients::{
-    Access, Core, DeviceFailed, End, Ports, Reader, ServeConfig, SessionFault, ShardLaw, ShardPass,
-    Sink, Source, World, Writer, config_of, serve,
+    Access, BoundPort, Conversation, Core, Device, DeviceFailed, End, Ports, Reader, ServeConfig,
+    SessionFault, ShardLaw, ShardPass, Sink, Source, World, Writer, config_of, serve,
 };

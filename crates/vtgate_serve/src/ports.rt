@@ -198,7 +198,13 @@ pub fn serve_router<
     begin_serving(rt, asked, engine, output)?;
     let progress = ServeProgress::new();
     let last = last_connection(asked);
-    let acceptor = Acceptor::new(&config.ports.clients, &progress, opener, listening, last);
+    let acceptor = Acceptor::new(
+        config.ports.clients.listener(),
+        &progress,
+        opener,
+        listening,
+        last,
+    );
     let server = Server {
         rt,
         alloc,
@@ -211,6 +217,6 @@ pub fn serve_router<
         acceptor,
         &mut administrator,
         &mut pass,
-        &config.ports.admin,
+        config.ports.admin.listener(),
     )
 }

@@ -93,7 +93,7 @@ fn serve_in_world<
     ensures told { OnOk result (Appends (O.taken output.old) (O.taken output.new) listening_text) }
     ensures fault { IfErr result (λ f. status_of f ≡ FAILURE) }
 {
-    let ports = bind(rt, asked.address, asked.admin)?;
+    let ports = bind(rt, asked)?;
     let Ok(opened) = Opened::<ShardLaw<W>>::new(alloc) else {
         return Err(RunFault::Failed);
     };
