@@ -176,7 +176,7 @@ fn begin<W: World, J: Naming>(
 // database that knows no shards: each query's rows are an answer over what the commands before it left, each write makes and counts its
 // changes of that, and a refusal leaves it; in a transaction each statement gives what it means after those before it, which COMMIT does
 // all at once, and nothing else does
-// With: Core::feed
+// With: Conversation::{turn, finish}, Core::feed
 // Clauses: alone
 /// Serves one connection, the one with this id, until it ends: greets its client by the salt, lets in whom `access` names, reads commands
 /// from the source, and writes their replies to the sink.

@@ -411,4 +411,38 @@ impl<W: World + Send + Sync, J: Naming + Send + Sync, D: Device> Conversation<W,
             }
         }
     }
+
+    // Promise: A conversation whose turns one worker takes until it is over has written what `serve` writes for what it had read, and tells
+    // how it has ended
+    // Clauses: same, over, talk, alone, at_end, read, memory, write
+    /// Takes turns until the conversation is over. So its device should wait: for bytes to come, and for those that it is given to be taken.
+    pub fn finish<G: Gate>(
+        &mut self,
+        rt: &(impl Threads + Wait + Sync),
+        alloc: Global,
+        engine: &Engine<W, J, G>,
+        buffer: &mut [u8],
+    ) -> Result<End, SessionFault>
+        requires room { 0 < length buffer.old }
+        ensures same { IsSameConversation self.old self.new }
+        ensures over { (self.new.ended ≡ Some result) × (self.new.unsent ≡ []) }
+        ensures talk { HasTalkedWhole W.opening W.limits self.new.handshake self.new.pass_then self.new.pass
+            (D.unread self.new.device_then) (prepend_known self.new.unfed (D.unread self.new.device)) (D.taken self.new.device_then) (D.taken self.new.device) result }
+        ensures alone { HasTalkedAlone W.opening W.limits self.new.handshake self.new.pass_then self.new.pass
+            (D.unread self.new.device_then) (prepend_known self.new.unfed (D.unread self.new.device)) (D.taken self.new.device_then) (D.taken self.new.device) result }
+        ensures at_end { IfOk result (λ end. IsByInput end → IsAtEnd (D.unread self.new.device)) }
+        ensures read { HasStoppedReading W.opening W.limits self.new.handshake self.new.pass_then self.new.pass
+            (D.unread self.new.device_then) (prepend_known self.new.unfed (D.unread self.new.device)) (D.taken self.new.device_then) (D.taken self.new.device) result }
+        ensures memory { HasStoppedForMemory W.opening W.limits self.new.handshake self.new.pass_then self.new.pass
+            (D.unread self.new.device_then) (prepend_known self.new.unfed (D.unread self.new.device)) (D.taken self.new.device_then) (D.taken self.new.device) result }
+        ensures write { HasStoppedWriting W.opening W.limits self.new.handshake self.new.pass_then self.new.pass
+            (D.unread self.new.device_then) (prepend_known self.new.unfed (D.unread self.new.device)) (D.taken self.new.device_then) (D.taken self.new.device) result }
+    {
+        for _ in rt.forever() {
+            if let Turned::Over(result) = self.turn(rt, alloc, engine, buffer) {
+                return result;
+            }
+        }
+        unreachable!()
+    }
 }

@@ -13,8 +13,9 @@
 //! A session of `talk` begins with `commands`, or with the handshake: then the field is stage 2, or `-`, of the user `u`, a blank and a salt.
 //! Each is held twice, the second time by pieces of one byte; another answer to these is printed after the first. One of `served` has the user
 //! `u` without a password, and a salt of twenty A. Its device is a `source` that fails after the text, a sink that fails after so many writes
-//! (`sink 0`, `sink 1` or `sink 2`), or a source that is `interrupted` before each byte. Each is a session of connection 1, over the unsharded
-//! keyspace `shop` with the table `t (id, c)` of the rows (1, NULL), (2, NULL), (3, 7), (4, 7), (5, 9) and (6, 1).
+//! (`sink 0`, `sink 1` or `sink 2`), a source that is `interrupted` before each byte, or a `pausing` one, at which the session takes turns: it gives
+//! and takes one byte at every other call, and none at the others. Each is a session of connection 1, over the unsharded keyspace `shop` with the
+//! table `t (id, c)` of the rows (1, NULL), (2, NULL), (3, 7), (4, 7), (5, 9) and (6, 1).
 #![tactic(auto)]
 
 mod answers;
@@ -22,6 +23,7 @@ mod devices;
 mod failing;
 mod loopback;
 mod passwords;
+mod pausing;
 mod runs;
 mod sessions;
 mod talks;

@@ -8,6 +8,7 @@ ghost use Rattle.shard_run.specs.opening.Empty.{opening_of, FitRanges};
 
 use crate::devices::InterruptedReader;
 use crate::failing::{FailingSink, FailingSource};
+use crate::pausing::PausingDevice;
 use journal::{Naming, Opened, Opener};
 use keyrange::KeyRange;
 use shard_run::opening::ranges_fit;
@@ -19,8 +20,8 @@ use vschema::VSchema;
 use vt_value::{Items, Refusal};
 use vtgate_serve::router::{empty_router, widest_limits};
 use vtgate_serve::{
-    Access, Core, End, Engine, Open, Reader, SessionFault, ShardLaw, ShardPass, Sink, Source,
-    World, Writer, serve,
+    Access, Conversation, Core, End, Engine, Open, Reader, SessionFault, ShardLaw, ShardPass, Sink,
+    Source, World, Writer, serve,
 };
 
 /// One unsharded keyspace with the table t.
@@ -64,6 +65,8 @@ pub(crate) enum Device {
     FailingSink(u32),
     /// The source is interrupted before each byte.
     InterruptedSource,
+    /// The session takes turns, and waits at each byte.
+    Pausing,
 }
 
 /// What a session does.
@@ -219,21 +222,53 @@ impl<W: World + Send + Sync, J: Naming + Send + Sync, R: Threads + Wait + Sync> 
             Talk::Served(Device::FailingSink(writes_left), input) => {
                 Ok(self.serve_failing_sink(input, writes_left, sink))
             }
-            Talk::Served(Device::InterruptedSource, input) => {
+            Talk::Served(Device::InterruptedSource | Device::Pausing, input) => {
                 Ok(self.serve_interrupted(input, sink))
             }
         }
     }
 
+    // Serves the user u by turns at a conversation.
+    fn take_turns(self, input: &[u8], sink: &mut Writer<Vec<u8>>) -> Result<Ended, Refusal> {
+        let Client {
+            rt,
+            alloc,
+            engine,
+            pass,
+            ..
+        } = self;
+        let access = Access {
+            user: Items::from_slice(alloc, b"u")?,
+            stage2: None,
+        };
+        let device = PausingDevice {
+            unread: input,
+            taken: Vec::new(alloc),
+            is_pausing: false,
+        };
+        let Ok(mut conversation) = Conversation::begin(alloc, &access, &[0x41; 20], 1, pass, device)
+        else {
+            return Err(Refusal::OutOfMemory);
+        };
+        let mut buffer = [0u8; 16];
+        let ended = conversation.finish(rt, alloc, engine, &mut buffer);
+        let (_pass, device) = conversation.into_parts();
+        sink.writer.extend_from_slice(&device.taken)?;
+        Ok(ended)
+    }
+
     // Talks, once the rows are in the table.
     fn talk_over_rows(
-        &mut self,
+        mut self,
         talk: Talk<'_>,
         sink: &mut Writer<Vec<u8>>,
     ) -> Result<Ended, Refusal> {
         self.command(ROWS, sink)?;
         sink.writer.clear();
-        self.talk(talk, sink)
+        match talk {
+            Talk::Served(Device::Pausing, input) => self.take_turns(input, sink),
+            talk => self.talk(talk, sink),
+        }
     }
 }
 
@@ -248,14 +283,13 @@ fn serve_two<W: World + Send + Sync, J: Naming + Send + Sync, R: Threads + Wait 
     sink: &mut Writer<Vec<u8>>,
     reply: &mut Writer<Vec<u8>>,
 ) -> Result<Ended, Refusal> {
-    let mut first = Client {
+    let first = Client {
         rt,
         alloc,
         engine,
         pass: opener.open(seen)?,
     };
     let ended = first.talk_over_rows(talk, sink);
-    drop(first);
     let mut second = Client {
         rt,
         alloc,

@@ -121,6 +121,7 @@ fn device_of(field: &str) -> Result<Device, Unanswered> {
         "sink 1" => Ok(Device::FailingSink(1)),
         "sink 2" => Ok(Device::FailingSink(2)),
         "interrupted" => Ok(Device::InterruptedSource),
+        "pausing" => Ok(Device::Pausing),
         _ => Err(Unanswered::BadLine),
     }
 }
