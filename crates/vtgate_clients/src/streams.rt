@@ -40,7 +40,7 @@ pub fn read_for_now<R: io::Read>(
 }
 
 /// Writes a front of the bytes, perhaps none for now, by one write, and returns how many.
-#[tactic(auto, using(crate::proofs::Streams::none_kept, crate::proofs::Streams::none_front))]
+#[tactic(auto, using(crate::proofs::StreamLemmas::none_kept, crate::proofs::StreamLemmas::none_front))]
 pub fn write_for_now<W: io::Write>(stream: &mut W, bytes: &[u8]) -> Result<usize, DeviceFailed>
     ensures bound { IfOk result (λ n. n ≤ length bytes.now) }
     ensures bytes { IfOk result (λ n. Appends (W.contents stream.old) (W.contents stream.new) (take n bytes.now)) }
