@@ -131,7 +131,7 @@ pub when_none : {X : Type 0} (o : Option X) (A : Type 0) (B : X → Type 0) → 
 when_none {X = X} o A B none h = subst (λ (x : Option X). MatchOption x A B) none h
 
 -- a step stopped, and the cutover was given up
-pub stopped : (o : Opening) (most : Limits) (w mid now : WorkflowView) (p at q : PassView Entry) (e : ReshardFault) → IsOnward o p at
+unfoldable pub stopped : (o : Opening) (most : Limits) (w mid now : WorkflowView) (p at q : PassView Entry) (e : ReshardFault) → IsOnward o p at
     → IsSwitchRefusal o most w.sources w.targets p at e → w.retired ≡ 0 → mid ≡ record w { prepared = mid.prepared }
     → now ≡ record mid { stage = Following; frozen = 0 } → AllByRecursion (λ s. IsServingAgain o s at q) mid.sources
     → EachInTurn (HasThawed o) mid.sources at q → HasStopped o most w now p q e
