@@ -441,9 +441,7 @@ def a_thousand_logins_at_once(program):
         check("each is let in", all(client.read()[:1] == b"\0" for client in clients))
         seconds = time.monotonic() - start
         print(f"  a thousand logins at once: {seconds:.2f} s", flush=True)
-        # beside other work of the machine each takes as much longer as there is work for a processor
-        most = 5 * max(1, os.getloadavg()[0] / os.cpu_count())
-        check(f"within {most:.0f} seconds by this client, {seconds:.2f}", seconds < most)
+        check(f"within five seconds by this client, {seconds:.2f}", seconds < 5)
 
 
 @case
