@@ -15,6 +15,7 @@ give_up-requires-clause-none g c =
     omega (arith, a, n)
 
 pub returns-in-Err-clause-refused : goal.returns-in-Err-clause-refused
+unfolding stopped
 returns-in-Err-clause-refused g c =
     let o = g.W.World.opening in
     let most = g.W.World.limits in

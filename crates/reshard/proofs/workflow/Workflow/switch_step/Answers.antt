@@ -4,6 +4,7 @@ use Rattle.reshard.proofs.Switches.{stopped}
 use Rattle.reshard.proofs.workflow.Workflow.switch_step.Goals as goal
 
 pub returns-in-Err-clause-refused : goal.returns-in-Err-clause-refused
+unfolding stopped
 returns-in-Err-clause-refused g c =
     inr (
       c.if-not-may_switch.ensures.yes refl,
