@@ -67,7 +67,7 @@ module _ (R : RattleType) (shared : IsSync R) where
   client_send ℓ =
       recorded_send (client.the_field ℓ R socket.the_row).row _ _ (client.the_type ℓ R socket.the_row).to_one
       (struct_send (shape (client.the_type ℓ R socket.the_row))
-      (shr_send _ _ _ shared, (sent_socket.the_field_send, (search (sent_traffic.the_send, std.crosses, sendable), (search (std.crosses, sendable), (search (std.crosses, sendable), (search (std.crosses, sendable), tt)))))))
+      (shr_send _ _ _ shared, (sent_socket.the_send, (search (sent_traffic.the_send, std.crosses, sendable), (search (std.crosses, sendable), (search (std.crosses, sendable), (search (std.crosses, sendable), tt)))))))
 
 module _ (W J R : RattleType) (w : world.Ghosts W.Denot) (j : naming.Ghosts J.Denot) (l : log.Ghosts R.Denot) (k : clock.Ghosts R.Denot) (shared : IsSync R) where
   talking_send : (ℓ : _) → IsSend (talking.the_row ℓ W J R j l w k)
