@@ -21,7 +21,7 @@ use vt_value::{Items, Refusal};
 use vtgate_serve::router::{empty_router, widest_limits};
 use vtgate_serve::{
     Access, Conversation, Core, End, Engine, Open, Reader, SessionFault, ShardLaw, ShardPass, Sink,
-    Source, World, Writer, serve,
+    Source, World, Writer, serve_session,
 };
 
 /// One unsharded keyspace with the table t.
@@ -168,7 +168,7 @@ impl<W: World + Send + Sync, J: Naming + Send + Sync, R: Threads + Wait + Sync> 
             return Err(SessionFault::Memory);
         };
         let access = Access { user, stage2: None };
-        serve(
+        serve_session(
             self.rt,
             self.alloc,
             self.engine,

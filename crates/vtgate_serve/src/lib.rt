@@ -14,5 +14,6 @@ pub use admin_client::{BrokenOff, LONGEST_LINE, talk};
 pub use serve::{run_serve, serve_opened};
 pub use vtgate_clients::{
     Access, BoundPort, Conversation, Core, Device, DeviceFailed, End, Ports, Reader, ServeConfig,
-    SessionFault, ShardLaw, ShardPass, Sink, Source, World, Writer, config_of, serve,
+    SessionFault, ShardLaw, ShardPass, Sink, Source, World, Writer, config_of,
+    serve as serve_session,
 };
