@@ -11,7 +11,6 @@ ghost use Rattle.vtgate_serve.specs.Served.{listening_text};
 use crate::admin_port::serve_admin;
 use admin::{Administrator, Engine, Gate, widest_limits};
 use journal::{Naming, Opener};
-use libc::net as c;
 use log::Log;
 use std::alloc::Global;
 use std::net::TcpListener;
@@ -25,10 +24,6 @@ use vtgate_clients::{
     Acceptor, ServeConfig, ServeProgress, Server, ShardLaw, ShardPass, Sink, World, can_start,
     census, events, last_connection, serve_clients,
 };
-
-/// How many connections may wait until they are accepted. std asks for 128. Of a burst of more the system drops some, whose clients then wait for their
-/// greeting for ever.
-const BACKLOG: i32 = 4096;
 
 /// What is printed once clients can connect.
 const LISTENING: &[u8] = b"listening\n";
