@@ -8,7 +8,8 @@ use Rattle.route_engine.specs.Limits.{Limits}
 use Rattle.reshard.specs.declared.cutover.CutoverStep.{CutoverStep}
 use Rattle.reshard.specs.declared.finishing.Resumed.{Resumed}
 use Rattle.reshard.specs.Workflows.{WorkflowView}
-use Rattle.reshard.specs.Cutover.{HasSwitched, IsResumed}
+use Rattle.reshard.specs.ReshardFault.{ReshardFault}
+use Rattle.reshard.specs.Cutover.{HasSwitched, HasStoppedShort, HasStoppedLater, IsResumed}
 use Rattle.reshard.specs.Cutover as cutover
 use Rattle.admin.specs.declared.reply.AdminReply.{AdminReply}
 use Rattle.admin.specs.AdminAnswers.{IsAnswered, HasCreated, AnswersStep, HasCutOver, HasAdvanced, HasResumed, HasCancelled, HasCompleted}
@@ -27,6 +28,13 @@ module _ (o : Opening) (most : Limits) (w now : WorkflowView) (p q : PassView En
   of_step step (cutover.published not all served is) = ap (λ (x : WorkflowView). x.keyspace) is
   of_step step (cutover.released was all served is) = ap (λ (x : WorkflowView). x.keyspace) is
 
+  of_short : (e : ReshardFault) (before : PassView Entry) (mid : WorkflowView) → HasStoppedShort o most mid now before q e → now.keyspace ≡ mid.keyspace
+  of_short e before mid h = ap (λ (x : WorkflowView). x.keyspace) h.stopped.given_up.at
+
+  of_stopped : (e : ReshardFault) → HasStoppedLater o most w now p q e → now.keyspace ≡ w.keyspace
+  of_stopped e (cutover.while_coming h until) = ap (λ (x : WorkflowView). x.keyspace) h.given_up.at
+  of_stopped e (cutover.at_step near come onward h) = of_short e h.before h.mid h.stopped ∙ ap (λ (x : WorkflowView). x.keyspace) h.further
+
   of_resumed : (r : Resumed) → IsResumed o w now p q r → now.keyspace ≡ w.keyspace
   of_resumed r (cutover.thawed h) = ap (λ (x : WorkflowView). x.keyspace) h.at
   of_resumed r (cutover.finished n h steps) = ap (λ (x : WorkflowView). x.keyspace) h.at
@@ -43,12 +51,12 @@ module _ (o : Opening) (most : Limits) (w now : WorkflowView) (p q : PassView En
 
   of_switch : (reply : AdminReply) → HasCutOver o most w now p q reply → now.keyspace ≡ w.keyspace
   of_switch reply (told.done was h steps) = ap (λ (x : WorkflowView). x.keyspace) h.at
-  of_switch reply (told.refused was h) = ap (λ (x : WorkflowView). x.keyspace) h.stopped.given_up.at ∙ ap (λ (x : WorkflowView). x.keyspace) h.further
+  of_switch reply (told.refused {e = e} was h) = of_stopped e h
   of_switch reply (told.wrong_state not is still) = same w now is
 
   of_advance : (reply : AdminReply) → HasAdvanced o most w now p q reply → now.keyspace ≡ w.keyspace
   of_advance reply (told.done {step = step} was h once ready) = of_step step h
-  of_advance reply (told.refused was h) = ap (λ (x : WorkflowView). x.keyspace) h.given_up.at
+  of_advance reply (told.refused {e = e} was h) = of_short e p w h
   of_advance reply (told.wrong_state not is still) = same w now is
 
   of_resume : (reply : AdminReply) → HasResumed o w now p q reply → now.keyspace ≡ w.keyspace
