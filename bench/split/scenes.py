@@ -133,12 +133,12 @@ class Admin:
                 raise Refused(f"step: {answer}")
 
     def stop_reading(self):
-        """Sends lines until no more are taken, since the router waits for their answers to be read."""
+        """Sends lines until no more are taken, since the router waits for their answers to be read, or until it has closed the connection."""
         self.socket.settimeout(0.2)
         try:
             while True:
                 self.socket.sendall(b"status\n" * 8192)
-        except TimeoutError:
+        except (TimeoutError, ConnectionError):
             pass
 
 
