@@ -1,7 +1,7 @@
 -- Readings are joined into a session's pass one after the other.
 use Rattle.std.specs.Prelude.{Contains}
 use Rattle.std.proofs.Common.{◌≡◌, ℕ, true, List, [], ◌∷◌, ◌++◌, map, flat_map, Ok, Result, sym, refl, ap, subst, inl, ◌∙◌}
-use Rattle.std.proofs.lemmas.List.{append-nil, append_assoc}
+use Rattle.std.proofs.lemmas.List.{append-nil, append_assoc, map-append}
 use mathlib.Core.List.{IsPrefix}
 use Rattle.std.specs.declared.alloc.AllocError.{AllocError}
 use Rattle.vt_value.specs.Values.{Row}
@@ -154,6 +154,24 @@ stalled_at f o p now new pieces reads items rest x all is so_far longer held_up 
   there =
       subst (λ l. Contains l (f x)) (ap (λ l. so_far.front ++ map f l) (sym is) ∙ so_far.whole)
       (Contains-from_In (f x) (so_far.front ++ f x ∷ map f rest) (In-right (f x) so_far.front (f x ∷ map f rest) (inl refl)));
+  held_up = held_up;
+  seen = longer.other;
+}
+
+-- ---- a pass that goes on by looks alone, of whichever came of them
+
+pub has_joined : (o : Opening) (p now q new : PassView Entry) → HasGone o p now → IsLonger slot_of commit_of (MayFollow o) now q new.seen
+    → new ≡ record now { seen = new.seen; looks = now.looks ++ q.looks } → HasGone o p new
+has_joined o p now q new (added, gone) longer pass = (added ++ q.looks, goes_on o p now q new added gone longer pass)
+
+-- one of all readings was of a shard that doesn't serve
+pub stalled_there : {X : Type 0} (f : X → ShardReply) (o : Opening) (now new : PassView Entry) (front items rest : List X) (x : X) (all : List X) → front ++ items ≡ all
+    → items ≡ x ∷ rest → IsLonger slot_of commit_of (MayFollow o) now (f x).pass new.seen → (f x).outcome ≡ Ok r.NotServing → IsStalled (map f all) new
+stalled_there f o now new front items rest x all whole is longer held_up = record {
+  given = f x;
+  there =
+      subst (λ l. Contains l (f x)) (sym (map-append f front (x ∷ rest)) ∙ ap (λ l. map f (front ++ l)) (sym is) ∙ ap (map f) whole)
+      (Contains-from_In (f x) (map f front ++ f x ∷ map f rest) (In-right (f x) (map f front) (f x ∷ map f rest) (inl refl)));
   held_up = held_up;
   seen = longer.other;
 }

@@ -86,6 +86,46 @@ fn answer(
     }
 }
 
+/// Whether a look found its shard serving, or was refused a growth.
+pub(crate) fn serves(begun: &Result<BegunRead, AllocError>) -> bool {
+    !matches!(begun, Ok(BegunRead::Answered(ReadOutcome::NotServing)))
+}
+
+// That the shard doesn't serve, or nothing: no rows are read.
+fn answer_unread(
+    alloc: Global,
+    begun: Result<BegunRead, AllocError>,
+    query: &Query,
+) -> Result<ReadOutcome, AllocError>
+    ensures { (o : Opening) (run : Run) (s : ShardRecord) → IfOk begun (HasBegunRead o run s query.now) → IfOk result (AnswersQuery o run s query.now) }
+{
+    if serves(&begun) {
+        return Err(AllocError);
+    }
+    answer(alloc, begun, query)
+}
+
+/// What a look came to whose rows aren't read, since another shard of its query doesn't serve: that this one doesn't, or an error, which nobody
+/// is told.
+pub(crate) fn leave<W: World, J: Naming>(alloc: Global, looked: LookedJob<W, J>) -> ReadResult<W, J>
+    ensures { IsFinishOf W.opening (record { slot = looked.entry.slot; query = looked.entry.query; pass = looked.entry.pass; begun = looked.entry.begun }) (record { slot = result.slot; pass = result.pass; outcome = result.outcome }) }
+{
+    let LookedJob {
+        slot,
+        query,
+        pass,
+        begun,
+        ..
+    } = looked;
+    let outcome = answer_unread(alloc, begun, query.get());
+    drop(query);
+    ReadResult {
+        slot,
+        pass,
+        outcome,
+    }
+}
+
 /// A shard's answer as of its look, read by this thread.
 pub(crate) fn finish<W: World, J: Naming, G: Gate>(
     alloc: Global,

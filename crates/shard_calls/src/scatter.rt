@@ -12,7 +12,7 @@ ghost use Rattle.shard_calls.specs.Answers.{HasGone, IsHeldUp};
 ghost use Rattle.shard_calls.specs.inner.Scatter.{asked, all_asked, IsReadingOf, outcome_rows, entries_in, IsGathered, AreConsecutive, IsStalled, IsScattered, IsPieceAlone, IsFinishOf};
 
 use crate::gate::Gate;
-use crate::looks::{LookedJob, finish, look_at_all};
+use crate::looks::{LookedJob, finish, leave, look_at_all, serves};
 use crate::parts::shard_of;
 use crate::pieces::{Piece, piece_for};
 use crate::reply::ShardRead;
@@ -186,17 +186,43 @@ fn are_small<W: World, J: Naming>(looked: &[LookedJob<W, J>], most: usize) -> bo
     true
 }
 
-// Each shard's answer, read by this thread, one after the other.
+// Whether each of these shards served at its look.
+fn all_serve<W: World, J: Naming>(looked: &[LookedJob<W, J>]) -> bool {
+    for one in looked {
+        if !serves(&one.begun) {
+            return false;
+        }
+    }
+    true
+}
+
+// A shard's answer, read by this thread; or, if no rows are to be read, what its look came to.
+fn read_one<W: World, J: Naming, G: Gate>(
+    alloc: Global,
+    gate: &G,
+    looked: LookedJob<W, J>,
+    reads: bool,
+) -> ReadResult<W, J>
+    ensures { IsFinishOf W.opening (record { slot = looked.entry.slot; query = looked.entry.query; pass = looked.entry.pass; begun = looked.entry.begun }) (record { slot = result.slot; pass = result.pass; outcome = result.outcome }) }
+{
+    if !reads {
+        return leave(alloc, looked);
+    }
+    finish(alloc, gate, looked)
+}
+
+// Each shard's answer, read by this thread, one after the other; or, if no rows are to be read, what each look came to.
 fn read_in_turn<W: World, J: Naming, G: Gate>(
     alloc: Global,
     gate: &G,
     looked: Vec<LookedJob<W, J>>,
+    reads: bool,
 ) -> Result<Vec<ReadResult<W, J>>, AllocError>
     ensures ok { IfOk result (λ done. AllZip (λ l d. IsFinishOf W.opening (record { slot = l.slot; query = l.query; pass = l.pass; begun = l.begun }) (record { slot = d.slot; pass = d.pass; outcome = d.outcome })) looked.entry.items done.items) }
 {
     let mut done = Vec::with_capacity(alloc, looked.len())?;
     for job in looked {
-        done.push(finish(alloc, gate, job))?;
+        done.push(read_one(alloc, gate, job, reads))?;
     }
     Ok(done)
 }
@@ -256,8 +282,8 @@ fn processors(rt: &impl Threads) -> usize {
     }
 }
 
-// Each shard's answer: of one shard, or of few rows each, read by this thread; else as many at once as the gate says, each in a thread of
-// its own where one can be started. Refuses only for want of memory.
+// Each shard's answer. If one of them doesn't serve, the query waits, and no rows are read for it. Answers of one shard, or of few rows each, are
+// read by this thread; else as many at once as the gate says, each in a thread of its own where one can be started. Refuses only for want of memory.
 fn read_looked<R: Threads + Wait + Sync, W: World + Send + Sync, J: Naming + Send + Sync, G: Gate>(
     rt: &R,
     alloc: Global,
@@ -266,12 +292,13 @@ fn read_looked<R: Threads + Wait + Sync, W: World + Send + Sync, J: Naming + Sen
 ) -> Result<Vec<ReadResult<W, J>>, AllocError>
     ensures ok { IfOk result (λ done. AllZip (λ l d. IsFinishOf W.opening (record { slot = l.slot; query = l.query; pass = l.pass; begun = l.begun }) (record { slot = d.slot; pass = d.pass; outcome = d.outcome })) looked.entry.items done.items) }
 {
-    if looked.len() < 2 || are_small(looked.as_slice(), gate.few_rows()) {
-        return read_in_turn(alloc, gate, looked);
+    let reads = all_serve(looked.as_slice());
+    if !reads || looked.len() < 2 || are_small(looked.as_slice(), gate.few_rows()) {
+        return read_in_turn(alloc, gate, looked, reads);
     }
     let most = gate.most_at_once(processors(rt));
     if most < 2 {
-        return read_in_turn(alloc, gate, looked);
+        return read_in_turn(alloc, gate, looked, true);
     }
     read_some_at_once(rt, alloc, gate, looked, most)
 }
@@ -293,9 +320,43 @@ pub fn read_all<R: Threads + Wait + Sync, W: World + Send + Sync, J: Naming + Se
     Ok(done)
 }
 
-/// What the shards gave, with all that their passes have seen and their looks joined into the session's pass; nothing where one of them
-/// doesn't serve. Refuses only for want of memory, a shard's too.
-pub fn gather<W: World, J: Naming>(
+// Whether one of these shards doesn't serve.
+fn is_held_up<W: World, J: Naming>(done: &[ReadResult<W, J>]) -> bool {
+    for one in done {
+        if let Ok(ReadOutcome::NotServing) = one.outcome {
+            return true;
+        }
+    }
+    false
+}
+
+// Joins all that was seen up to the first shard that doesn't serve, and the looks. Refuses where each serves.
+fn hold_up<W: World, J: Naming>(
+    pass: &mut ShardPass<W, J>,
+    done: Vec<ReadResult<W, J>>,
+) -> Result<(), AllocError>
+    requires legal { IsLegal (MayFollow W.opening) pass.old.seen }
+    ensures gone { HasGone W.opening pass.old pass.new }
+    ensures stalled { IfOk result (λ _. IsStalled (map (λ d. record { slot = d.slot; pass = d.pass; outcome = d.outcome }) done.items) pass.new) }
+{
+    for one in done {
+        let ReadResult {
+            pass: looked,
+            outcome,
+            ..
+        } = one;
+        pass.join(looked);
+        match outcome {
+            Ok(ReadOutcome::NotServing) => return Ok(()),
+            Ok(ReadOutcome::Rows(reading)) => drop(reading),
+            Err(_) => {}
+        }
+    }
+    Err(AllocError)
+}
+
+// What the shards gave, each of which served, with all that their passes have seen and their looks joined into the session's pass.
+fn join_all<W: World, J: Naming>(
     alloc: Global,
     pass: &mut ShardPass<W, J>,
     done: Vec<ReadResult<W, J>>,
@@ -325,6 +386,27 @@ pub fn gather<W: World, J: Naming>(
         }
     }
     Ok(Some(gathered))
+}
+
+/// What the shards gave, with all that their passes have seen and their looks joined into the session's pass; nothing where one of them
+/// doesn't serve. Refuses only for want of memory, a shard's too.
+pub fn gather<W: World, J: Naming>(
+    alloc: Global,
+    pass: &mut ShardPass<W, J>,
+    done: Vec<ReadResult<W, J>>,
+) -> Result<Option<Gathered>, AllocError>
+    requires legal { IsLegal (MayFollow W.opening) pass.old.seen }
+    ensures gone { HasGone W.opening pass.old pass.new }
+    ensures all { IfOk result (λ r. IfSome r (λ g. IsGathered W.opening (map (λ d. record { slot = d.slot; pass = d.pass; outcome = d.outcome }) done.items) pass.old pass.new)) }
+    ensures pieces { IfOk result (λ r. IfSome r (λ g. map ⟦<Rows as Operator>⟧.to_come g.pieces.items ≡ map (λ d. outcome_rows d.outcome) done.items)) }
+    ensures reads { IfOk result (λ r. IfSome r (λ g. g.reads ≡ map (λ d. record { slot = d.slot; entries = entries_in d.outcome }) done.items)) }
+    ensures stalled { IfOk result (λ r. IfNone r (IsStalled (map (λ d. record { slot = d.slot; pass = d.pass; outcome = d.outcome }) done.items) pass.new)) }
+{
+    if is_held_up(done.as_slice()) {
+        hold_up(pass, done)?;
+        return Ok(None);
+    }
+    join_all(alloc, pass, done)
 }
 
 /// The rows that a shard gave alone, and what the reply says of it.

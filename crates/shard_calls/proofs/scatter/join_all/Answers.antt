@@ -3,7 +3,7 @@ use Rattle.std.specs.Vec.Iter.{into_iter_items}
 use Rattle.std.proofs.lemmas.List.{nil_from_length}
 use Rattle.shard_calls.specs.inner.Scatter.{given_rows, given_read}
 use Rattle.shard_calls.proofs.Gathers.{begins_at, gone_at, joined_at, stalled_at, ends_at, map_twice}
-use Rattle.shard_calls.proofs.scatter.gather.Goals as goal
+use Rattle.shard_calls.proofs.scatter.join_all.Goals as goal
 
 gives : (g : _) (c : goal.After-into_iter-one-iterator g) → into_iter_items c.into_iter-one-iterator.result ≡ c.args.done.items
 gives g c = c.into_iter-one-iterator.ensures.into_iter_gives.0

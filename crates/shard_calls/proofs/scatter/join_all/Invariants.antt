@@ -1,7 +1,7 @@
 use Rattle.std.proofs.Common.{map, reverse, length, ◌≡◌}
 use Rattle.std.specs.Vec.Iter.{into_iter_items, into_iter_len}
 use Rattle.shard_calls.proofs.Gathers.{Gathers}
-use Rattle.shard_calls.proofs.scatter.gather.Given as goal
+use Rattle.shard_calls.proofs.scatter.join_all.Given as goal
 
 -- the readings so far are joined into the pass
 abbrev pub invariant-loop-one : goal.invariant-loop-one

@@ -19,8 +19,8 @@ loop-job-preserved g c = record {
     c.loop-job.invariant.read.0 ++ c.in-Some.job ∷ [],
     append_assoc c.loop-job.invariant.read.0 (c.in-Some.job ∷ []) _ ∙ ap (λ l. c.loop-job.invariant.read.0 ++ l) (sym c.in-Some.ensures.steps.0)
         ∙ c.loop-job.invariant.read.1,
-    rw c.in_ok-push.ensures.items (all_zipped_more _ c.loop-job.invariant.read.0 c.loop-job.done.items c.in-Some.job c.finish.result
-        c.loop-job.invariant.read.2 c.finish.ensures),
+    rw c.in_ok-push.ensures.items (all_zipped_more _ c.loop-job.invariant.read.0 c.loop-job.done.items c.in-Some.job c.read_one.result
+        c.loop-job.invariant.read.2 c.read_one.ensures),
   );
   long =
       let was = c.loop-job.invariant.long in
