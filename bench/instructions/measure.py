@@ -40,12 +40,11 @@ HEAD = """## Instructions of a statement
 
 Written by `bench/instructions.sh` on {day}: the instructions of the server's process from a statement to the end of its reply, as callgrind counts them
 through a socket, so that what else runs on the machine changes nothing. Several statements of a kind are sent, and the count is that of one.
-Beside it stands the count that the page had before, which is the last commit's, and the ratio to it.
 
-| statement | shards | rows | instructions | before | ratio |
-|---|---|---|---|---|---|
+| statement | shards | rows | instructions |
+|---|---|---|---|
 """
-ROW = re.compile(r"^\| (.*?) \| (\d+) \| (\d+) \| (\d+) \| .*\|$", re.M)
+ROW = re.compile(r"^\| (.*?) \| (\d+) \| (\d+) \| (\d+) \|$", re.M)
 
 
 def scattered(number):
@@ -169,9 +168,9 @@ def main():
             continue
         count = measure(words.program, shards, rows, times, text, *opening)
         last = before.get((shown, str(shards), str(rows)))
-        beside = f"{last} | {count / last:.2f}" if last else "- | -"
-        line = f"| {shown} | {shards} | {rows} | {count} | {beside} |"
-        print(line, flush=True)
+        line = f"| {shown} | {shards} | {rows} | {count} |"
+        # what the page has is that of the last commit
+        print(line, f"{count / last:.2f} times the page's" if last else "", flush=True)
         part += line + "\n"
     if words.document:
         page.put(words.document, "instructions.sh", part)
