@@ -17,21 +17,11 @@ from as_prepared import make_client, run_prepared
 from frameworks import PROGRAMS, run_frameworks
 from servers import PASSWORD, MariaDB, sharded_keyspace, tables_of
 
+from checks import check, ended
 from router import USER, Router
 
 HERE = pathlib.Path(__file__).resolve().parent
 MARKS = HERE / "refused"
-
-passed, failed = 0, 0
-
-
-def check(name, got, wanted=True):
-    global passed, failed
-    if got == wanted:
-        passed += 1
-        return
-    failed += 1
-    print(f"{name}:\n  wanted {wanted}\n  got    {got}", flush=True)
 
 
 def read_units(path):
@@ -215,8 +205,7 @@ def main():
         step_count = sum(count for _, count in step_counts.values())
         print(f"steps that are refused: {count_of(steps)}")
         print(f"steps of frameworks: {step_count - len(steps)} of {step_count} are as MariaDB's server has them")
-    print(f"applications: {passed} passed, {failed} failed")
-    sys.exit(1 if failed else 0)
+    sys.exit(ended("applications"))
 
 
 main()

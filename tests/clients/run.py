@@ -9,13 +9,14 @@ import sys
 import tempfile
 import threading
 import time
-import traceback
 
 import asks
+import checks
 import libraries
 import packets
 import prepared
-from libraries import ALSO, BY_DEFAULT, COMMAND_LINE, DBD_MARIADB, DBD_MYSQL, GO, PYMYSQL, PYTHON
+from checks import check
+from libraries import ALSO, BY_DEFAULT, COMMAND_LINE, DBD_MARIADB, DBD_MYSQL, GO, PYMYSQL
 from packets import error_of
 from router import SCHEMA, SHARDS, TOP, USER, Router, free_ports
 
@@ -26,17 +27,6 @@ STEPS = libraries.read_steps(pathlib.Path(__file__).with_name("steps"))
 DENIED = "ERROR 1045 (28000): access denied"
 UNKNOWN = "ERROR 1049 (42000): no such database"
 SYNTAX = "ERROR 1064 (42000): syntax error"
-
-passed, failed = 0, 0
-
-
-def check(name, got, wanted):
-    global passed, failed
-    if got == wanted:
-        passed += 1
-        return
-    failed += 1
-    print(f"{name}:\n  wanted {wanted}\n  got    {got}", flush=True)
 
 
 def check_all(name, library, statements, outcomes):
@@ -621,12 +611,9 @@ def words_are_tested(program):
 
 
 def attempt(test, *arguments):
-    """Runs a test; one that stops in the middle has failed."""
+    """Runs a test over a program and the rest of its arguments, which say what it is."""
     begin = time.monotonic()
-    try:
-        test(*arguments)
-    except Exception:
-        check(f"{test.__name__} of {[getattr(it, 'name', it) for it in arguments[1:]]}", traceback.format_exc(), "no exception")
+    checks.attempt(test, *arguments, name=f"{test.__name__} of {[getattr(it, 'name', it) for it in arguments[1:]]}")
     if "TIMES" in os.environ:
         print(f"{time.monotonic() - begin:.1f} s: {test.__name__}", file=sys.stderr, flush=True)
 
@@ -685,8 +672,7 @@ def main():
     ):
         attempt(test, program)
     waiting.join()
-    print(f"clients: {passed} passed, {failed} failed")
-    sys.exit(1 if failed else 0)
+    sys.exit(checks.ended("clients"))
 
 
 main()

@@ -5,6 +5,7 @@ import sys
 
 sys.path.insert(0, str(pathlib.Path(__file__).resolve().parents[1] / "clients"))
 
+from checks import check, ended
 from packets import Client, error_of
 from router import USER, Router
 
@@ -17,17 +18,6 @@ TOO_MANY = "ERROR 1461 (42000): too many statements"
 # what a connection's texts may take of the process beyond what it takes without them
 MOST_HELD = 16 << 20
 INT, TEXT = b"\x08\0", b"\xfd\0"
-
-passed, failed = 0, 0
-
-
-def check(name, got, wanted=True):
-    global passed, failed
-    if got == wanted:
-        passed += 1
-        return
-    failed += 1
-    print(f"{name}:\n  wanted {wanted}\n  got    {got}", flush=True)
 
 
 def number(value, size=8):
@@ -196,8 +186,7 @@ def main():
         statements_are_counted(router)
         texts_are_bounded(router)
         long_data_is_bounded(router)
-    print(f"prepared: {passed} passed, {failed} failed")
-    return 1 if failed else 0
+    return ended("prepared")
 
 
 if __name__ == "__main__":

@@ -1,7 +1,4 @@
-"""Does to the router what a hostile client can do. Called by tests/hostile.sh with the program; further words are the names of cases to run alone.
-
-A case is a function that is marked by `@case` and is given the program. It calls `check` for each thing that it shows.
-"""
+"""Does to the router what a hostile client can do. Called by tests/hostile.sh with the program; further words are the names of cases to run alone."""
 
 import os
 import pathlib
@@ -12,29 +9,12 @@ import subprocess
 import sys
 import threading
 import time
-import traceback
 
 sys.path.insert(0, str(pathlib.Path(__file__).resolve().parents[1] / "clients"))
 
-from packets import PLAIN, Client, Closed
+from checks import case, check, ended, run_cases
+from packets import Client, Closed
 from router import SCHEMA, SHARDS, USER, Router, free_ports
-
-cases = []
-passed, failed = 0, 0
-
-
-def case(function):
-    cases.append(function)
-    return function
-
-
-def check(name, got, wanted=True):
-    global passed, failed
-    if got == wanted:
-        passed += 1
-        return
-    failed += 1
-    print(f"{name}:\n  wanted {wanted}\n  got    {got}", flush=True)
 
 
 class Trickler(threading.Thread):
@@ -345,16 +325,8 @@ def words_that_are_no_text_are_wrong(program):
 
 
 def main():
-    program, names = sys.argv[1], sys.argv[2:]
-    for function in cases:
-        if names and function.__name__ not in names:
-            continue
-        try:
-            function(program)
-        except (Closed, OSError, RuntimeError, ValueError):
-            check(function.__name__, traceback.format_exc(), "no exception")
-    print(f"hostile: {passed} passed, {failed} failed")
-    return 1 if failed else 0
+    run_cases(sys.argv[1], sys.argv[2:])
+    return ended("hostile")
 
 
 if __name__ == "__main__":

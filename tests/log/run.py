@@ -1,7 +1,4 @@
-"""Makes each event of a server happen, and compares the lines that it logs. Called by tests/log.sh with the program.
-
-A case is a function that is marked by `@case` and is given the program. It calls `check` for each thing that it shows.
-"""
+"""Makes each event of a server happen, and compares the lines that it logs. Called by tests/log.sh with the program; further words are the names of cases to run alone."""
 
 import json
 import os
@@ -15,10 +12,10 @@ import sys
 import tempfile
 import threading
 import time
-import traceback
 
 sys.path.insert(0, str(pathlib.Path(__file__).resolve().parents[1] / "clients"))
 
+from checks import case, check, ended, run_cases
 from packets import DEPRECATE_EOF, INIT_DB, PING, PLAIN, QUERY, QUIT, Client
 from router import SCHEMA, SHARDS, USER, free_ports
 
@@ -26,23 +23,6 @@ TIME = r"\d{4}-\d\d-\d\dT\d\d:\d\d:\d\d\.\d{3}Z"
 WORD = r'(?:"(?:[ !#-\[\]-~]|\\["\\]|\\u00[0-9a-f]{2})*"|[!#-<>-\[\]-~]+)'
 LINE = re.compile(rf"({TIME}) (error|warn|info|debug) ({WORD})((?: {WORD}={WORD})*)\n")
 FIELD = re.compile(rf" ({WORD})=({WORD})")
-
-cases = []
-passed, failed = 0, 0
-
-
-def case(function):
-    cases.append(function)
-    return function
-
-
-def check(name, got, wanted=True):
-    global passed, failed
-    if got == wanted:
-        passed += 1
-        return
-    failed += 1
-    print(f"{name}:\n  wanted {wanted}\n  got    {got}", flush=True)
 
 
 def plain(word):
@@ -444,14 +424,9 @@ def without(program):
 
 
 def main():
-    program = sys.argv[1]
-    for each in cases:
-        try:
-            each(program)
-        except Exception:
-            check(each.__name__, traceback.format_exc(), "an end")
-    print(f"log: {passed} passed, {failed} failed")
-    return 1 if failed else 0
+    run_cases(sys.argv[1], sys.argv[2:])
+    return ended("log")
 
 
-sys.exit(main())
+if __name__ == "__main__":
+    sys.exit(main())

@@ -1,7 +1,4 @@
-"""Many connections to few workers. Called by tests/many.sh with the program; further words are the names of cases to run alone.
-
-A case is a function that is marked by `@case` and is given the program. It calls `check` for each thing that it shows.
-"""
+"""Many connections to few workers. Called by tests/many.sh with the program; further words are the names of cases to run alone."""
 
 import os
 import pathlib
@@ -16,7 +13,8 @@ import traceback
 
 sys.path.insert(0, str(pathlib.Path(__file__).resolve().parents[1] / "clients"))
 
-from packets import PING, QUERY, QUIT, Client, Closed, error_of
+from checks import case, check, ended, run_cases
+from packets import PING, QUERY, QUIT, Client, error_of
 from router import USER, Router
 
 CONNECTIONS = int(os.environ.get("CONNECTIONS", "10000"))
@@ -25,23 +23,6 @@ THREADS = 10
 OTHER_FILES = 32
 BUFFER_FULL = "ERROR 1105 (HY000): buffer full"
 TOO_MANY = "ERROR 1040 (08004): too many connections"
-
-cases = []
-passed, failed = 0, 0
-
-
-def case(function):
-    cases.append(function)
-    return function
-
-
-def check(name, got, wanted=True):
-    global passed, failed
-    if got == wanted:
-        passed += 1
-        return
-    failed += 1
-    print(f"{name}:\n  wanted {wanted}\n  got    {got}", flush=True)
 
 
 def log_in(router, timeout=60):
@@ -457,19 +438,10 @@ def it_ends_after_the_last_one(program):
 
 
 def main():
-    program, names = sys.argv[1], sys.argv[2:]
     _, hard = resource.getrlimit(resource.RLIMIT_NOFILE)
     resource.setrlimit(resource.RLIMIT_NOFILE, (hard, hard))
-    for function in cases:
-        if names and function.__name__ not in names:
-            continue
-        print(function.__name__, flush=True)
-        try:
-            function(program)
-        except Exception:
-            check(function.__name__, traceback.format_exc(), "no exception")
-    print(f"many: {passed} passed, {failed} failed")
-    sys.exit(1 if failed else 0)
+    run_cases(sys.argv[1], sys.argv[2:], tells=True)
+    sys.exit(ended("many"))
 
 
 if __name__ == "__main__":
