@@ -77,7 +77,7 @@ class ByPDO {
 
 // What the characters of a text are as bytes, and values as they are bound: what has no 64 bits with a sign is a text.
 function bytes($values) {
-    return array_map(fn ($it) => is_string($it) ? mb_convert_encoding($it, 'ISO-8859-1', 'UTF-8') : $it, $values);
+    return array_map(fn ($it) => is_string($it) ? iconv('UTF-8', 'ISO-8859-1', $it) : $it, $values);
 }
 
 class ByPrepared extends ByMysqli {
