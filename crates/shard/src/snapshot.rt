@@ -9,10 +9,12 @@ ghost use Rattle.shard_contents.specs.Transactions.{HasReadIn};
 ghost use Rattle.shard.specs.BegunReads.{HasBegunRead};
 ghost use Rattle.shard.specs.inner.Snapshots.{HasBegunIn, HasRows, IsGivenBy, IsReadable, IsToRead};
 
-use shard_contents::{Pending, ReadOutcome, Reading, StoredTables, select_in_transaction};
+use shard_contents::{
+    OwnChanges, Pending, ReadOutcome, Reading, StoredTables, select_in_transaction,
+};
 use std::alloc::{AllocError, Global};
 use std::marker::Model;
-use vschema::{Query, RowChange};
+use vschema::Query;
 use vt_value::{Items, Row};
 
 /// A read that looks at more rows of a table than so many has a snapshot of them, and the lock is given back before it looks.
@@ -107,7 +109,7 @@ pub fn rows_in(
     store: &mut StoredTables,
     alloc: Global,
     query: &Query,
-    changes: &[RowChange],
+    changes: &OwnChanges,
 ) -> Result<RowsIn, AllocError>
     requires { IsReadable query.now changes.now store.old.rows }
     ensures rows { IfOk result (HasRows query.now changes.now store.old.rows) }
@@ -128,7 +130,7 @@ impl RowsIn {
         self,
         alloc: Global,
         query: &Query,
-        changes: &[RowChange],
+        changes: &OwnChanges,
     ) -> Result<Items<Row>, AllocError>
         requires readable { IsToRead query.now changes.now self }
         ensures ok { IfOk result (IsGivenBy query.now changes.now self) }
@@ -159,7 +161,7 @@ impl BegunReadIn {
             entries,
             stored,
         } = self;
-        let rows = rows.select(alloc, query, tx.changes.as_slice())?;
+        let rows = rows.select(alloc, query, &tx.changes)?;
         tx.touch(query, stored)?;
         Ok(Reading { rows, entries })
     }

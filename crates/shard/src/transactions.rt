@@ -83,12 +83,7 @@ impl<W: World, J: Naming> ShardState<W, J> {
     {
         let entries = self.check(pass, tx)?;
         let stored = self.contents.stored.len();
-        let rows = rows_in(
-            &mut self.contents.store,
-            alloc,
-            query,
-            tx.changes.as_slice(),
-        )?;
+        let rows = rows_in(&mut self.contents.store, alloc, query, &tx.changes)?;
         Ok(BegunReadIn {
             rows,
             entries,
@@ -154,9 +149,9 @@ impl<W: World, J: Naming> ShardState<W, J> {
         };
         let made = self
             .contents
-            .changes_in_transaction(alloc, schema, &write, tx.changes.as_slice());
+            .changes_in_transaction(alloc, schema, &write, &tx.changes);
         let (changes, write) = with_owned(made, write)?;
-        tx.add(alloc, touch, write, changes.as_slice())?;
+        tx.add(alloc, schema, touch, write, changes.as_slice())?;
         Ok(changes.len() as u64)
     }
 

@@ -26,6 +26,8 @@ pub mod OneTable
 pub mod Wanted
 pub mod SourceRows
 pub mod Earlier
+pub mod KeyPositions
+pub mod ChangeLists
 pub mod RowsLeft
 pub use Rattle.shard_store.proofs.stored.StoredTables.TheSendSync as StoredtablesTheSendSync
 pub use Rattle.shard_law.proofs.Lists

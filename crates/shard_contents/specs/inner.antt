@@ -11,3 +11,4 @@ pub mod KeptChanges
 pub mod KeptConflicts
 pub mod LastChanges
 pub mod StoredLogs
+pub mod OwnChanges

@@ -1,12 +1,14 @@
 //! What a shard holds under its lock, and what its commits, its transactions and its copies make of that, in memory made before an entry is appended.
 #![tactic(auto)]
 
+mod changes_by_key;
 mod contents;
 mod copies;
 mod copying;
 mod kept_entry;
 mod next_rows;
 mod outcomes;
+mod own_changes;
 mod pending;
 mod preparing;
 mod rows_left;
@@ -25,6 +27,7 @@ pub use copying::{
 pub use kept_entry::KeptEntry;
 pub use next_rows::{COPY_STEP, is_key_before, is_reached, lies_in};
 pub use outcomes::{CommitOutcome, ReadOutcome, Reading};
+pub use own_changes::OwnChanges;
 pub use pending::Pending;
 pub use shard_law::{
     Limits, MOST_ENTRIES, MOST_ROWS, MOST_STORED, Narrowed, Whole, narrow, select_local,
@@ -36,5 +39,5 @@ pub use store::changed_table;
 pub use stored_entries::StoredEntries;
 pub use target_steps::TargetStep;
 pub use touched_table::Touch;
-pub use transaction_rows::{changes_any, select_in_transaction};
+pub use transaction_rows::select_in_transaction;
 pub use vschema::VSchema;

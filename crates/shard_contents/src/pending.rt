@@ -5,18 +5,19 @@ ghost use Rattle.shard_contents.specs.inner.LastChanges.{tells_change, tells_con
 ghost use Rattle.vschema.specs.Sources.{source_tables};
 
 use crate::copies::{copy_changes, with_owned};
+use crate::own_changes::OwnChanges;
 use crate::stored_entries::StoredEntries;
 use crate::touched_table::Touch;
 use std::alloc::{AllocError, Global};
 use std::marker::Model;
-use vschema::{Query, RowChange, Write};
+use vschema::{Query, RowChange, VSchema, Write};
 
 /// A transaction on its one shard that isn't committed: the tables that it has touched, its writes in order, and the row changes that they
 /// make. Contracts see a `PendingView`.
 pub struct Pending {
     pub touched: Vec<Touch>,
     pub writes: Vec<Write>,
-    pub changes: Vec<RowChange>,
+    pub changes: OwnChanges,
 }
 
 impl Drop for Pending {
@@ -42,7 +43,7 @@ impl Model for Pending {
 
     ghost coded = { Prim.hlevel (codes, write.the_row.coded) };
 
-    ghost view = { λ p. record { touched = p.touched.items; writes = p.writes.items; changes = p.changes.items } };
+    ghost view = { λ p. record { touched = p.touched.items; writes = p.writes.items; changes = p.changes } };
 }
 
 fn is_touched(touched: &[Touch], ordinal: usize) -> bool
@@ -63,23 +64,33 @@ fn touch_table(touched: &mut Vec<Touch>, touch: Touch)
     }
 }
 
+// The ordinals of the primary key's columns of the table at an ordinal, if there is one.
+fn primary_key(schema: &VSchema, ordinal: usize) -> &[usize] {
+    match schema.tables.as_slice().get(ordinal) {
+        Some(table) => table.primary_key.as_slice(),
+        None => &[],
+    }
+}
+
 // Appends the changes, and makes room for a touch and a write. Refuses for want of memory; then nothing has changed.
 fn append(
+    alloc: Global,
     touched: &mut Vec<Touch>,
     writes: &mut Vec<Write>,
-    changes: &mut Vec<RowChange>,
+    changes: &mut OwnChanges,
+    columns: &[usize],
     more: &mut Vec<RowChange>,
 ) -> Result<(), AllocError>
     ensures touched { touched.new.items ≡ touched.old.items }
     ensures touch { OnOk result (vec_len touched.new < vec_capacity touched.new) }
     ensures writes { writes.new.items ≡ writes.old.items }
     ensures write { OnOk result (vec_len writes.new < vec_capacity writes.new) }
-    ensures changes { OnOk result (changes.new.items ≡ changes.old.items ++ more.old.items) }
-    ensures unchanged { OnErr result (changes.new.items ≡ changes.old.items) }
+    ensures changes { OnOk result (changes.new ≡ changes.old ++ more.old.items) }
+    ensures unchanged { OnErr result (changes.new ≡ changes.old) }
 {
     touched.reserve(1)?;
     writes.reserve(1)?;
-    changes.append(more)?;
+    changes.append(alloc, columns, more)?;
     Ok(())
 }
 
@@ -91,7 +102,7 @@ impl Pending {
         Pending {
             touched: Vec::new(alloc),
             writes: Vec::new(alloc),
-            changes: Vec::new(alloc),
+            changes: OwnChanges::new(alloc),
         }
     }
 
@@ -137,10 +148,12 @@ impl Pending {
         Ok(())
     }
 
-    /// Touches the table of a write, and takes the write over with its changes. Refuses for want of memory; then nothing has changed.
+    /// Touches the table of a write, and takes the write over with its changes. Later statements find these by the primary keys of their rows, as the
+    /// VSchema has them. Refuses for want of memory; then nothing has changed.
     pub fn add(
         &mut self,
         alloc: Global,
+        schema: &VSchema,
         touch: Touch,
         write: Write,
         changes: &[RowChange],
@@ -150,9 +163,11 @@ impl Pending {
     {
         let (mut copied, write) = with_owned(copy_changes(alloc, changes), write)?;
         let room = append(
+            alloc,
             &mut self.touched,
             &mut self.writes,
             &mut self.changes,
+            primary_key(schema, touch.table),
             &mut copied,
         );
         let (_, write) = with_owned(room, write)?;

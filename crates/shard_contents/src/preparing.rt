@@ -60,7 +60,7 @@ impl Pending {
         ensures { result ≡ record { session = statement_id.session; number = statement_id.number; statements = self.old.writes; changes = self.old.changes } }
     {
         let writes = mem::replace(&mut self.writes, Vec::new(alloc));
-        let changes = mem::replace(&mut self.changes, Vec::new(alloc));
+        let changes = self.changes.take(alloc);
         Commit {
             session: statement_id.session,
             number: statement_id.number,
@@ -144,7 +144,7 @@ impl Contents {
         if !self.has_room_for(entries, tx.changes.as_slice()) {
             return Err(Refusal::ShardFull);
         }
-        let count = tx.changes.len() as u64;
+        let count = tx.changes.as_slice().len() as u64;
         let (kept, keyed) = self.make_room(alloc, tx.changes.as_slice())?;
         let shard = match copy_shard(alloc, &self.shard) {
             Ok(shard) => shard,

@@ -1,7 +1,8 @@
 //! What a transaction sees: the rows that the shard holds, with the transaction's own changes. Of these only the changes of rows that a
-//! statement looks at are done, over the rows as they are stored, so no table is copied.
-ghost use Rattle.std.specs.Prelude.{◌≡◌, ◌⊎◌, ◌==◌, ◌<◌, ◌≤◌, ◌^◌, ◌++◌, ◌∷◌, [], List, true, filter, Ok, Err, OnOk, IfOk, IfErr, length};
+//! statement looks at are done, over the rows as they are stored, so no table is copied. Those of rows with known keys are found by the keys.
+ghost use Rattle.std.specs.Prelude.{◌≡◌, ◌⊎◌, ◌==◌, ◌<◌, ◌≤◌, ◌^◌, ◌++◌, ◌∷◌, [], List, true, filter, Ok, Err, OnOk, IfOk, IfErr, IfSome, IsSorted, Bool, false, if◌then◌else◌, length};
 ghost use Rattle.std.specs.List.{list_any};
+ghost use Rattle.std.specs.Ordering.{nat_cmp};
 ghost use Rattle.vt_value.specs.declared.value.Value.{Value as V};
 ghost use Rattle.vschema.specs.Checks.{is_aggregated};
 ghost use Rattle.vschema.specs.Schema.{key_of};
@@ -12,8 +13,10 @@ ghost use Rattle.shard_store.specs.Groups.{CanBeSummed};
 ghost use Rattle.shard_store.specs.Queries.{IsAnswer};
 ghost use Rattle.shard_store.specs.Writes.{written_table, changes_of, changes_over};
 ghost use Rattle.shard_contents.specs.inner.Stores.{row_after, is_selected};
+ghost use Rattle.shard_contents.specs.inner.OwnChanges.{HasPositions, IsDoneAt};
 
 use crate::contents::{Contents, written_table};
+use crate::own_changes::OwnChanges;
 use crate::store::changed_table;
 use shard_store::{Overlay, StoredTables, change_local, keeps, same_key, select_joined};
 use sql_tree::Condition;
@@ -23,9 +26,6 @@ use vt_value::{Items, Refusal, Row};
 
 // More rows than memory can hold. The sums of a query are known to fit up to here.
 const MOST_ROWS: usize = 1 << 60;
-
-// So many new rows are compared with each of a transaction's changes. For more, all changes are done, and the keys are looked up.
-const FEW_NEW: usize = 8;
 
 /// Which rows a statement looks at.
 #[derive(Clone, Copy)]
@@ -57,24 +57,15 @@ impl<'a> RowSelection<'a> {
     }
 }
 
-/// Whether one of the changes is of the table at an ordinal.
-pub fn changes_any(ordinal: usize, changes: &[RowChange]) -> bool
-    ensures { result ≡ list_any (λ c. changed_table c == ordinal) changes.now }
+// Whether a change may be of a table that the query is over.
+fn changes_source(query: &Query, changes: &OwnChanges) -> bool
+    ensures { result ≡ false → list_any (λ n. list_any (λ c. changed_table c == n) changes.now) (source_tables query.now) ≡ false }
 {
-    changes
-        .iter()
-        .any(|change| changed_table(change) == ordinal)
-}
-
-// Whether one of the changes is of a table that the query is over.
-fn changes_source(query: &Query, changes: &[RowChange]) -> bool
-    ensures { result ≡ list_any (λ n. list_any (λ c. changed_table c == n) changes.now) (source_tables query.now) }
-{
-    if changes_any(query.table, changes) {
+    if changes.may_change(query.table) {
         return true;
     }
     match query.join {
-        Some(join) => changes_any(join.table, changes),
+        Some(join) => changes.may_change(join.table),
         None => false,
     }
 }
@@ -127,8 +118,86 @@ fn change_wanted<'a>(
     }
 }
 
-// Rows of the table at an ordinal, of which the wanted ones are those that the changes leave.
-fn overlaid_rows<'a>(
+// Does a change to rows.
+fn change_row<'a>(
+    alloc: Global,
+    rows: &mut Overlay<'a>,
+    change: &'a RowChange,
+) -> Result<(), AllocError>
+    ensures ok { OnOk result (rows.new.rows ≡ row_after change.now rows.old.rows) }
+{
+    match change {
+        RowChange::Added(_, row) => rows.add(row),
+        RowChange::Replaced(_, old, new) => {
+            rows.remove(alloc, old)?;
+            rows.add(new)
+        }
+        RowChange::Removed(_, row) => rows.remove(alloc, row),
+    }
+}
+
+// Does a change to the rows of the table at an ordinal, if it is of that table.
+fn change_table<'a>(
+    alloc: Global,
+    rows: &mut Overlay<'a>,
+    ordinal: usize,
+    change: &'a RowChange,
+) -> Result<(), AllocError>
+    ensures ok { OnOk result (rows.new.rows ≡ (if changed_table change.now == ordinal then row_after change.now rows.old.rows else rows.old.rows)) }
+{
+    if changed_table(change) == ordinal {
+        return change_row(alloc, rows, change);
+    }
+    Ok(())
+}
+
+// Does the change at a position to the rows of the table at an ordinal, unless it is before the next one. Answers the position after it.
+fn change_at<'a>(
+    alloc: Global,
+    rows: &mut Overlay<'a>,
+    ordinal: usize,
+    changes: &'a [RowChange],
+    next: usize,
+    position: usize,
+) -> Result<usize, AllocError>
+    ensures { IfOk result (IsDoneAt ordinal changes.now next position rows.old.rows rows.new.rows) }
+{
+    if position < next {
+        return Ok(next);
+    }
+    match changes.get(position) {
+        Some(change) => {
+            change_table(alloc, rows, ordinal, change)?;
+            Ok(position + 1)
+        }
+        None => Ok(next),
+    }
+}
+
+// Rows of the table at an ordinal with the changes at these positions. Of rows that are wanted, they have those that all changes leave, if the positions of
+// all changes of such rows are there.
+fn changed_at<'a>(
+    alloc: Global,
+    store: &'a StoredTables,
+    ordinal: usize,
+    changes: &'a [RowChange],
+    positions: &[usize],
+) -> Result<Overlay<'a>, AllocError>
+    requires there { ordinal < length store.now.rows }
+    requires sorted { IsSorted nat_cmp positions.now }
+    ensures ok { IfOk result (λ overlaid. (p : List V → Bool) → HasPositions p ordinal changes.now positions.now
+        → filter p overlaid.rows ≡ filter p (rows_of (all_applied changes.now store.now.rows) ordinal)) }
+{
+    let mut overlaid = store.overlay(alloc, ordinal)?;
+    let mut next = 0;
+    for position in positions {
+        next = change_at(alloc, &mut overlaid, ordinal, changes, next, *position)?;
+    }
+    Ok(overlaid)
+}
+
+// The same rows, by a walk over all changes.
+fn replayed<'a>(
     alloc: Global,
     store: &'a StoredTables,
     ordinal: usize,
@@ -147,25 +216,52 @@ fn overlaid_rows<'a>(
     Ok(overlaid)
 }
 
-// The rows of the table at an ordinal that the changes leave.
-fn all_overlaid<'a>(
+// Positions, in order, among which are those of all changes of wanted rows of the table at an ordinal, if they are found by keys.
+fn positions_of(
     alloc: Global,
-    store: &'a StoredTables,
     ordinal: usize,
-    changes: &'a [RowChange],
-) -> Result<Overlay<'a>, AllocError>
-    requires { ordinal < length store.now.rows }
-    ensures ok { IfOk result (λ overlaid. overlaid.rows ≡ rows_of (all_applied changes.now store.now.rows) ordinal) }
+    changes: &OwnChanges,
+    wanted: RowSelection<'_>,
+) -> Result<Option<Vec<usize>>, AllocError>
+    ensures sorted { IfOk result (λ found. IfSome found (λ v. IsSorted nat_cmp v.items)) }
+    ensures ok { IfOk result (λ found. IfSome found (λ v. HasPositions (is_selected wanted.entry) ordinal changes.now v.items)) }
 {
-    overlaid_rows(alloc, store, ordinal, changes, RowSelection::All)
+    match wanted {
+        RowSelection::All => Ok(None),
+        RowSelection::Kept(condition) => changes.kept_positions(alloc, ordinal, condition),
+        RowSelection::Keyed(table, new) => changes.keyed_positions(alloc, ordinal, table, new),
+    }
 }
 
-// Rows of the table at an ordinal, of which those that have the primary key of a new one are those that the changes leave.
-fn keyed_overlaid<'a>(
+// Rows of the table at an ordinal, of which the wanted ones are those that the changes leave.
+fn overlaid_rows<'a>(
     alloc: Global,
     store: &'a StoredTables,
     ordinal: usize,
-    changes: &'a [RowChange],
+    changes: &'a OwnChanges,
+    wanted: RowSelection<'_>,
+) -> Result<Overlay<'a>, AllocError>
+    requires { ordinal < length store.now.rows }
+    ensures ok { IfOk result (λ overlaid. filter (is_selected wanted.entry) overlaid.rows ≡ filter (is_selected wanted.entry) (rows_of (all_applied changes.now store.now.rows) ordinal)) }
+{
+    match positions_of(alloc, ordinal, changes, wanted)? {
+        Some(positions) => changed_at(
+            alloc,
+            store,
+            ordinal,
+            changes.as_slice(),
+            positions.as_slice(),
+        ),
+        None => replayed(alloc, store, ordinal, changes.as_slice(), wanted),
+    }
+}
+
+// Rows of the table at an ordinal, which have the primary key of a new one if the rows that the changes leave have it.
+fn rows_for<'a>(
+    alloc: Global,
+    store: &'a StoredTables,
+    ordinal: usize,
+    changes: &'a OwnChanges,
     table: &Table,
     new: &[Row],
 ) -> Result<Overlay<'a>, AllocError>
@@ -182,35 +278,12 @@ fn keyed_overlaid<'a>(
     )
 }
 
-fn are_many(new: &[Row]) -> bool {
-    new.len() > FEW_NEW
-}
-
-// Rows of the table at an ordinal, which have the primary key of a new one if the rows that the changes leave have it.
-fn rows_for<'a>(
-    alloc: Global,
-    store: &'a StoredTables,
-    ordinal: usize,
-    changes: &'a [RowChange],
-    table: &Table,
-    new: &[Row],
-) -> Result<Overlay<'a>, AllocError>
-    requires { ordinal < length store.now.rows }
-    ensures ok { IfOk result (λ overlaid. list_any (λ n. list_any (λ r. same_row (key_of table.now n) (key_of table.now r)) overlaid.rows) new.now
-        ≡ list_any (λ n. list_any (λ r. same_row (key_of table.now n) (key_of table.now r)) (rows_of (all_applied changes.now store.now.rows) ordinal)) new.now) }
-{
-    if are_many(new) {
-        return all_overlaid(alloc, store, ordinal, changes);
-    }
-    keyed_overlaid(alloc, store, ordinal, changes, table, new)
-}
-
 // What a query over one table gives over its rows with these changes done.
 fn select_one_in_transaction(
     alloc: Global,
     store: &StoredTables,
     query: &Query,
-    changes: &[RowChange],
+    changes: &OwnChanges,
 ) -> Result<Items<Row>, AllocError>
     requires there { query.now.table < length store.now.rows }
     requires few { length (rows_of store.now.rows query.now.table) ≤ 2 ^ 60 }
@@ -218,7 +291,8 @@ fn select_one_in_transaction(
         → CanBeSummed (rows_of (all_applied changes.now store.now.rows) query.now.table) }
     ensures ok { IfOk result (IsAnswer query.now (rows_of (all_applied changes.now store.now.rows) query.now.table)) }
 {
-    if store.row_count_of(query.table) + changes.len() > MOST_ROWS {
+    let list = changes.as_slice();
+    if store.row_count_of(query.table) + list.len() > MOST_ROWS {
         return Err(AllocError);
     }
     let wanted = RowSelection::Kept(&query.filter);
@@ -232,7 +306,7 @@ fn select_pairs_in_transaction(
     store: &StoredTables,
     query: &Query,
     join: Join,
-    changes: &[RowChange],
+    changes: &OwnChanges,
 ) -> Result<Items<Row>, AllocError>
     requires first { query.now.table < length store.now.rows }
     requires second { join.table < length store.now.rows }
@@ -251,7 +325,7 @@ pub fn select_in_transaction(
     alloc: Global,
     store: &StoredTables,
     query: &Query,
-    changes: &[RowChange],
+    changes: &OwnChanges,
 ) -> Result<Items<Row>, AllocError>
     requires there { SourcesThere (length store.now.rows) query.now }
     requires few { length (source_rows query.now store.now.rows) ≤ 2 ^ 60 }
@@ -278,7 +352,7 @@ impl Contents {
         write: &Write,
         ordinal: usize,
         condition: &Option<Condition<usize>>,
-        changes: &[RowChange],
+        changes: &OwnChanges,
     ) -> Result<Items<RowChange>, Refusal>
         requires there { ordinal < length self.now.store.rows }
         requires kept { (rows : List (List V)) → changes_over table.now write.now (filter (is_kept condition.now) rows) ≡ changes_over table.now write.now rows }
@@ -301,7 +375,7 @@ impl Contents {
         write: &Write,
         ordinal: usize,
         new: &[Row],
-        changes: &[RowChange],
+        changes: &OwnChanges,
     ) -> Result<Items<RowChange>, Refusal>
         requires there { ordinal < length self.now.store.rows }
         requires insert { write.now ≡ Write.Insert ordinal new.now }
@@ -323,7 +397,7 @@ impl Contents {
         alloc: Global,
         table: &Table,
         write: &Write,
-        changes: &[RowChange],
+        changes: &OwnChanges,
     ) -> Result<Items<RowChange>, Refusal>
         requires there { written_table write.now < length self.now.store.rows }
         ensures ok { IfOk result (λ more. changes_over table.now write.now (rows_of (all_applied changes.now self.now.store.rows) (written_table write.now)) ≡ Ok more) }
@@ -350,7 +424,7 @@ impl Contents {
         alloc: Global,
         schema: &VSchema,
         write: &Write,
-        changes: &[RowChange],
+        changes: &OwnChanges,
     ) -> Result<Items<RowChange>, Refusal>
         requires there { written_table write.now < length schema.now.tables }
         requires tables { length self.now.store.rows ≡ length schema.now.tables }
@@ -360,7 +434,7 @@ impl Contents {
     {
         let ordinal = written_table(write);
         let table = &schema.tables.as_slice()[ordinal];
-        if !changes_any(ordinal, changes) {
+        if !changes.may_change(ordinal) {
             return self.store.changes(alloc, table, write);
         }
         self.changes_over(alloc, table, write, changes)

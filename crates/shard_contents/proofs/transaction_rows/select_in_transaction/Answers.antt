@@ -1,4 +1,4 @@
-use Rattle.std.proofs.Common.{◌≡◌, ◌≤◌, ◌^◌, List, length, sym, subst, ◌∙◌}
+use Rattle.std.proofs.Common.{◌≡◌, ◌≤◌, ◌^◌, List, length, sym, subst}
 use Rattle.std.specs.Prelude.{IfOk}
 use Rattle.vt_value.specs.Values.{Row}
 use Rattle.vschema.specs.Database.{all_applied}
@@ -12,7 +12,7 @@ pub select-requires : goal.select-requires
 select-requires c =
     let db = c.args.store.now.rows in
     let same : source_rows c.args.query.now (all_applied c.args.changes.now db) ≡ source_rows c.args.query.now db =
-    sources_kept c.args.changes.now db c.args.query.now (sym c.changes_source.ensures ∙ c.if-not-changes_source.true) in
+    sources_kept c.args.changes.now db c.args.query.now (c.changes_source.ensures c.if-not-changes_source.true) in
     record {
       summed = λ aggregated.
           subst CanBeSummed same (c.requires.summed aggregated (subst (λ (rows : List Row). length rows ≤ 2 ^ 60) (sym same) c.requires.few));
@@ -24,6 +24,6 @@ returns-then-not-changes_source c =
       ok = (
           let db = c.args.store.now.rows in
           subst (λ (rows : List Row). IfOk c.select.result (IsAnswer c.args.query.now rows))
-          (sym (sources_kept c.args.changes.now db c.args.query.now (sym c.changes_source.ensures ∙ c.if-not-changes_source.true))) c.select.ensures.ok
+          (sym (sources_kept c.args.changes.now db c.args.query.now (c.changes_source.ensures c.if-not-changes_source.true))) c.select.ensures.ok
           );
     }

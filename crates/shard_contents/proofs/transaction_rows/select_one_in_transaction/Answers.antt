@@ -1,4 +1,4 @@
-use Rattle.std.proofs.Common.{◌≤◌, ◌^◌, length, sym, subst, arith}
+use Rattle.std.proofs.Common.{◌≤◌, ◌^◌, length, ap, sym, subst, arith}
 use Rattle.vschema.specs.Database.{rows_of, all_applied}
 use Rattle.shard_store.specs.Groups.{CanBeSummed}
 use Rattle.shard_store.specs.Conditions.{is_kept}
@@ -12,7 +12,8 @@ select-requires c =
     let n = c.args.query.now.table in
     let rows = rows_of (all_applied c.args.changes.now db) n in
     let most = longer c.args.changes.now db n c.requires.there in
-    let few : length rows ≤ 2 ^ 60 = omega (arith, most, c.row_count_of.ensures, c.if-row_count_of-changes-gt-MOST_ROWS.false) in
+    let same = ap length c.as_slice-list.ensures.value in
+    let few : length rows ≤ 2 ^ 60 = omega (arith, most, same, c.row_count_of.ensures, c.if-row_count_of-list-gt-MOST_ROWS.false) in
     record {
       summed = λ aggregated.
           subst CanBeSummed (sym c.in_ok-overlaid.ensures.ok)

@@ -31,7 +31,7 @@ pub rows_in-requires : goal.rows_in-requires
 rows_in-requires g c =
     let e = c.in_ok-entries.ensures in
     let inside = c.self.inside.contents in
-    let own : c.as_slice.result.now ≡ c.args.tx.now.changes = c.as_slice.ensures.value ∙ ap (λ (x : PendingView). x.changes) c.tx.view_is in
+    let own : c.tx.inside.changes ≡ c.args.tx.now.changes = ap (λ (x : PendingView). x.changes) c.tx.view_is in
     let rows = inside.store.rows in
     let q = c.args.query.now in
     let long = l.tables g.W.World.opening g.W.World.limits c.self.inside.seat inside c.self.invariant.0 _ c.self.view_is c.args.self.now.shard e.shard
@@ -53,7 +53,7 @@ pub returns-clause-begun : goal.returns-clause-begun
 returns-clause-begun g c =
     let e = c.in_ok-entries.ensures in
     let tx : PendingView = c.args.tx.now in
-    let own : c.as_slice.result.now ≡ tx.changes = c.as_slice.ensures.value ∙ ap (λ (x : PendingView). x.changes) c.tx.view_is in
+    let own : c.tx.inside.changes ≡ tx.changes = ap (λ (x : PendingView). x.changes) c.tx.view_is in
     let inside = c.self.inside.contents in
     let q = c.args.query.now in
     let o = g.W.World.opening in
@@ -75,7 +75,7 @@ returns-clause-begun g c =
 
 pub returns-clause-readable : goal.returns-clause-readable
 returns-clause-readable g c =
-    let own : c.as_slice.result.now ≡ c.args.tx.now.changes = c.as_slice.ensures.value ∙ ap (λ (x : PendingView). x.changes) c.tx.view_is in
+    let own : c.tx.inside.changes ≡ c.args.tx.now.changes = ap (λ (x : PendingView). x.changes) c.tx.view_is in
     subst (λ (changes : List RowChange). IsToRead c.args.query.now changes c.in_ok-rows.rows) own c.in_ok-rows.ensures.readable
 
 pub invariant_of-self : goal.invariant_of-self

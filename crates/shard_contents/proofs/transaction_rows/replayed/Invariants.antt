@@ -1,7 +1,7 @@
 use Rattle.std.proofs.Common.{◌≡◌, filter, take}
 use Rattle.vschema.specs.Database.{rows_of, all_applied}
 use Rattle.shard_contents.specs.inner.Stores.{is_selected}
-use Rattle.shard_contents.proofs.transaction_rows.overlaid_rows.Given as goal
+use Rattle.shard_contents.proofs.transaction_rows.replayed.Given as goal
 
 -- the changes so far are done to the wanted rows
 abbrev pub invariant-loop-change : goal.invariant-loop-change

@@ -5,8 +5,8 @@ use Rattle.shard_store.specs.Stores.{ChangedView}
 use Rattle.shard_contents.specs.inner.Stores.{is_selected}
 use Rattle.shard_contents.proofs.OneTable.{next_here, next_other}
 use Rattle.shard_contents.proofs.Wanted.{after_same}
-use Rattle.shard_contents.proofs.transaction_rows.overlaid_rows.Goals as goal
-use Rattle.shard_contents.proofs.transaction_rows.overlaid_rows.Goals.{then-changed_table-ordinal+in_ok-change_wanted, else-changed_table-ordinal}
+use Rattle.shard_contents.proofs.transaction_rows.replayed.Goals as goal
+use Rattle.shard_contents.proofs.transaction_rows.replayed.Goals.{then-changed_table-ordinal+in_ok-change_wanted, else-changed_table-ordinal}
 
 pub loop-change-preserved : goal.loop-change-preserved
 loop-change-preserved c =
