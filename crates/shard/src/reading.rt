@@ -18,6 +18,7 @@ use journal::Naming;
 use shard_contents::{ReadOutcome, Reading};
 use shard_run::Mode;
 use std::alloc::{AllocError, Global};
+use std::sync::Arc;
 use vschema::Query;
 
 fn serves(mode: Mode) -> bool
@@ -44,6 +45,19 @@ impl<W: World, J: Naming> ShardState<W, J> {
         Ok(Reading { rows, entries })
     }
 
+    // What the next snapshot shares with the shard.
+    fn reader(&mut self, alloc: Global) -> Result<Arc<()>, AllocError>
+        ensures unchanged { self.new ≡ self.old }
+    {
+        if let Some(shared) = &self.readers {
+            return Arc::try_clone(shared);
+        }
+        let first = Arc::new(alloc, ())?;
+        let reader = Arc::try_clone(&first)?;
+        self.readers = Some(first);
+        Ok(reader)
+    }
+
     // The rows of a shard that serves, as they are, and has so many entries.
     fn snapshot(&mut self, alloc: Global, entries: u64) -> Result<Snapshot, AllocError>
         requires serves { answers_queries (mode W.opening self.old.seen self.old.shard.slot) ≡ true }
@@ -52,8 +66,21 @@ impl<W: World, J: Naming> ShardState<W, J> {
         ensures snapshot { IfOk result (IsSnapshotAt W.opening self.old.seen self.old.shard) }
         ensures unchanged { self.new ≡ self.old }
     {
+        let reader = self.reader(alloc)?;
         let store = self.contents.store.snapshot(alloc)?;
-        Ok(Snapshot { store, entries })
+        Ok(Snapshot {
+            store,
+            entries,
+            reader,
+        })
+    }
+
+    /// Whether a read over a snapshot of its rows is under way: one that outlasts them here frees them.
+    pub fn is_read(&self) -> bool {
+        match &self.readers {
+            Some(shared) => Arc::strong_count(shared) > 1,
+            None => false,
+        }
     }
 
     // What a read has once the shard was looked at, and has so many entries, with all that has to be done under its lock.

@@ -14,6 +14,7 @@ use shard_contents::{
 };
 use std::alloc::{AllocError, Global};
 use std::marker::Model;
+use std::sync::Arc;
 use vschema::Query;
 use vt_value::{Items, Row};
 
@@ -25,6 +26,8 @@ pub const MOST_ROWS_UNDER_LOCK: usize = 256;
 pub struct Snapshot {
     pub(crate) store: StoredTables,
     pub(crate) entries: u64,
+    // shared with the shard, which so knows whether there is one
+    pub(crate) reader: Arc<()>,
 }
 
 impl Model for Snapshot {

@@ -23,6 +23,7 @@ use shard_run::{Entry, Event, Follow, Mode, ShardRecord};
 use std::alloc::Global;
 use std::marker::Model;
 use std::mem::replace;
+use std::sync::Arc;
 use vschema::{Place, VSchema, Write};
 use vt_value::{Items, Refusal};
 
@@ -39,6 +40,8 @@ pub struct ShardState<W: World, J: Naming> {
     pub(crate) targets: Items<ShardRecord>,
     // whether it is the target of a workflow that was given up: no run says so
     pub(crate) given_up: bool,
+    // what each snapshot of its rows shares with it, once there was one
+    pub(crate) readers: Option<Arc<()>>,
 }
 
 impl<W: World, J: Naming> Model for ShardState<W, J> {
@@ -162,6 +165,7 @@ impl<W: World, J: Naming> ShardState<W, J> {
             sorted: SortedTables::new(alloc),
             targets: Items::new(alloc),
             given_up: false,
+            readers: None,
         }
     }
 

@@ -54,6 +54,7 @@ impl<W: World, J: Naming> ShardState<W, J> {
             sorted: _,
             targets: _,
             given_up: _,
+            readers: _,
         } = self;
         seat
     }

@@ -27,19 +27,19 @@ returns-clause-snapshot g c =
     let o = g.W.World.opening in
     let seat = c.self.inside.seat in
     let had = c.self.inside.contents in
-    let s = served_in o g.W.World.limits seat had c.args.self.now c.self.invariant.0 c.self.view_is c.requires.serves in
-    rw (← c.self.view_is)
+    let s = served_in o g.W.World.limits seat had c.args.self.now c.self.invariant.0 (c.self.view_is ∙ c.reader.ensures.unchanged) c.requires.serves in
+    rw (← (c.self.view_is ∙ c.reader.ensures.unchanged))
     record {
       serves = s.serves;
       few = few_held o _ seat had c.self.invariant.0 s;
       rows = subst (λ (db : Database). SameRows db (shard_rows o seat.seen had.shard)) (sym c.in_ok-store.ensures.snapshot) s.holds.rows;
-      count = c.requires.entries ∙ entries_in seat had c.args.self.now c.self.view_is;
+      count = c.requires.entries ∙ entries_in seat had c.args.self.now (c.self.view_is ∙ c.reader.ensures.unchanged);
     }
 
 pub invariant_of-result : goal.invariant_of-result
 invariant_of-result g c q =
     let seat = c.self.inside.seat in
     let had = c.self.inside.contents in
-    let s = served_in g.W.World.opening g.W.World.limits seat had c.args.self.now c.self.invariant.0 c.self.view_is c.requires.serves in
+    let s = served_in g.W.World.opening g.W.World.limits seat had c.args.self.now c.self.invariant.0 (c.self.view_is ∙ c.reader.ensures.unchanged) c.requires.serves in
     rw (c.in_ok-store.ensures.snapshot)
-    (rows_summed _ _ seat had c.self.invariant.0 (legal_in g.W.World.opening seat had c.args.self.now c.self.view_is c.requires.legal) s.serves q)
+    (rows_summed _ _ seat had c.self.invariant.0 (legal_in g.W.World.opening seat had c.args.self.now (c.self.view_is ∙ c.reader.ensures.unchanged) c.requires.legal) s.serves q)
