@@ -145,6 +145,14 @@ impl<W: World, J: Naming> Administrator<W, J> {
         }
     }
 
+    /// Whether reads of its workflow's sources are under way. Takes no memory.
+    pub fn is_read(&self, rt: &impl Wait) -> bool {
+        match &self.workflow {
+            Some(workflow) => workflow.is_read(rt),
+            None => false,
+        }
+    }
+
     /// Reads the words of an admin line, does what they ask for, and tells what was done, or why it wasn't. If there is no memory to
     /// read them, the workflow stands as it stood. The context is that of the sharded keyspace, if there is one.
     pub fn answer(

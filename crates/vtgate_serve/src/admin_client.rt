@@ -17,7 +17,8 @@ use journal::Naming;
 use log::Log;
 use std::alloc::Global;
 use std::sync::Wait;
-use std::time::{Clock, Instant};
+use std::thread;
+use std::time::{Clock, Duration, Instant};
 use vtgate_clients::census::Marks;
 use vtgate_clients::{ShardPass, Sink, Source, World, census, events};
 
@@ -32,6 +33,14 @@ const UNKNOWN: &[u8] = b"unknown\n";
 
 /// The line by which the shards are asked for.
 const STATUS: &[u8] = b"status";
+
+/// The line by which sources give their rows up.
+const COMPLETE: &[u8] = b"complete";
+
+/// How often, and how many milliseconds apart, it is looked whether these rows are still read.
+const LOOKS: u32 = 100;
+
+const BETWEEN_LOOKS: u64 = 10;
 
 /// What answers a step that froze a source.
 const FROZE: &[u8] = b"ok freeze\n";
@@ -103,6 +112,24 @@ fn tell_left<W: World + Send + Sync, J: Naming + Send + Sync, G: Gate, R: Wait +
     }
 }
 
+// Waits before `complete` until the reads have ended that began before the cutover, a second at most. Who ends the last read of rows that
+// were given up frees them: a client would wait for that, for as long as for the rows.
+fn await_reads<W: World, J: Naming, R: Wait + Clock>(
+    rt: &R,
+    administrator: &Administrator<W, J>,
+    words: &[u8],
+) {
+    if words != COMPLETE {
+        return;
+    }
+    for _ in 0..LOOKS {
+        if !administrator.is_read(rt) {
+            return;
+        }
+        let _ = thread::sleep(rt, Duration::from_millis(BETWEEN_LOOKS));
+    }
+}
+
 /// What each line is answered with, beside the administrator and its pass.
 #[derive(Drop)]
 struct LineContext<'c, W: World, J: Naming, G: Gate, R> {
@@ -126,6 +153,7 @@ fn answer<W: World + Send + Sync, J: Naming + Send + Sync, G: Gate, R: Wait + Cl
     ensures untold { OnErr result ((reply : AdminReply) × IsAdminReply W.opening W.limits words.now pass.old pass.new reply administrator.old administrator.new
         × AppendsFront (O.taken sink.old) (O.taken sink.new) (reply_text reply)) }
 {
+    await_reads(context.rt, administrator, words);
     let start = Instant::now(context.rt).ok();
     let reply = administer(
         context.rt,
