@@ -198,6 +198,7 @@ impl<W: World, J: Naming> ShardState<W, J> {
     pub fn is_found_at(&self, slot: usize, place: &Place) -> bool
         ensures at { result ≡ true → (self.now.shard.slot ≡ slot) × (self.now.shard.place ≡ place.now) }
         ensures past { result ≡ true → mode W.opening self.now.seen self.now.shard.slot ≡ Mode.Following → ⊥ }
+        ensures found { (self.now.shard.slot ≡ slot) × (self.now.shard.place ≡ place.now) → (mode W.opening self.now.seen self.now.shard.slot ≡ Mode.Following → ⊥) → result ≡ true }
     {
         if !self.stands_at(slot, place) {
             return false;
