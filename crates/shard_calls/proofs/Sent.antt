@@ -71,7 +71,7 @@ module _ (W J : RattleType) (w : world.Ghosts W.Denot) (j : naming.Ghosts J.Deno
   seat_send = sent_seat.the_send (law.the_row W) J entry.the_row j (laws.ghosts W w laws.no_dict) entry_send
 
   inside_send : IsSend (state_inside.the_row W J w j)
-  inside_send = recorded_send (state_inside.the_field W J w j).row _ _ (state_inside.the_type W J w j).to_one (struct_send (shape (state_inside.the_type W J w j)) (seat_send, (contents_send, (sorted.the_send, (targets_send, (search sendable, tt))))))
+  inside_send = recorded_send (state_inside.the_field W J w j).row _ _ (state_inside.the_type W J w j).to_one (struct_send (shape (state_inside.the_type W J w j)) (seat_send, (contents_send, (sorted.the_send, (targets_send, (search sendable, (search (std.crosses, sendable) depth 60 fits 20000, tt)))))))
 
   pub state_send : IsSend (state.the_row W J w j)
   state_send = view_send _ _ _ _ _ inside_send
