@@ -1,5 +1,5 @@
-//! Shows some columns of each row. A row that is shown whole is passed on as it is, without a copy.
-ghost use Rattle.std.specs.Prelude.{◌≡◌, true, length, map, IsTrue, IfOk};
+//! Shows some columns of each row. A row of which the first columns are shown is passed on without the others, and isn't copied.
+ghost use Rattle.std.specs.Prelude.{◌≡◌, true, length, map, take, IsTrue, IfOk};
 ghost use Rattle.std.specs.List.{range_with_len};
 ghost use Rattle.vt_value.specs.Values.{value_at};
 ghost use Rattle.operators.specs.Slices.{columns_of};
@@ -47,7 +47,25 @@ pub fn shows_whole(ordinals: &[usize], row: &Row) -> bool
     ordinals.len() == row.len() && are_in_turn(ordinals)
 }
 
-/// The columns of an input's rows at given ordinals. A row of which all are shown, in their order, is passed on as it is.
+// Whether the first values of a row are at these ordinals, in their order.
+fn shows_first(ordinals: &[usize], row: &Row) -> bool
+    ensures { result ≡ true → columns_of ordinals.now row.now ≡ take (length ordinals.now) row.now }
+{
+    ordinals.len() <= row.len() && are_in_turn(ordinals)
+}
+
+// The first values of a row, so many, without the others.
+fn first_values(row: Row, count: usize) -> Row
+    ensures { result ≡ take count row }
+{
+    let mut row = row;
+    while row.len() > count {
+        row.pop();
+    }
+    row
+}
+
+/// The columns of an input's rows at given ordinals. A row of which the first ones are shown, in their order, is passed on without the others, and isn't copied.
 #[derive(Drop)]
 pub struct Project<O> {
     input: O,
@@ -84,8 +102,8 @@ impl<O: Operator> Operator for Project<O> {
         let Some(row) = self.input.next(alloc)? else {
             return Ok(None);
         };
-        if shows_whole(self.ordinals.as_slice(), &row) {
-            return Ok(Some(row));
+        if shows_first(self.ordinals.as_slice(), &row) {
+            return Ok(Some(first_values(row, self.ordinals.len())));
         }
         let shown = project_row(alloc, self.ordinals.as_slice(), &row);
         self.failed = shown.is_err();
