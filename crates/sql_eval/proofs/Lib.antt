@@ -20,6 +20,7 @@ pub mod Lent
 pub mod Members
 pub mod Twins
 pub mod FrontRows
+pub mod PlainFronts
 pub mod Pairs
 pub mod PairValues
 pub mod NarrowLemmas

@@ -6,12 +6,14 @@ ghost use Rattle.vschema.specs.Sources.{padded_row, is_pair, pairs_of};
 ghost use Rattle.sql_eval.specs.Conditions.{is_kept};
 ghost use Rattle.sql_eval.specs.Grouping.{IsSortedSlice};
 ghost use Rattle.sql_eval.specs.Pairs.{seen};
+ghost use Rattle.sql_eval.specs.inner.Fronts.{IsWithin};
 ghost use Rattle.sql_eval.specs.Queries.{IsAnswer};
 
 use crate::conditions::{Seen, keeps_seen, seen_at};
-use crate::queries::{show, shown_ordinals};
+use crate::pair_fronts::first_pairs;
+use crate::queries::{front_of, show, shown_ordinals};
 use crate::rows::value_at;
-use aggregate::{Limit, Operator, Project, collect};
+use aggregate::{Limit, Operator, Project, Rows, collect};
 use sql_tree::{Condition, Key};
 use std::alloc::{AllocError, Global};
 use vschema::{Join, Query};
@@ -98,8 +100,8 @@ impl<'a> PairSource<'a> for SlicePairs<'a> {
     }
 }
 
-// The next pair whose condition is true, or `None` if none is left.
-fn next_kept_pair<'a, S: PairSource<'a>>(
+/// The next pair whose condition is true, or `None` if none is left.
+pub(crate) fn next_kept_pair<'a, S: PairSource<'a>>(
     alloc: Global,
     condition: &Option<Condition<usize>>,
     pairs: &mut S,
@@ -190,19 +192,32 @@ fn shown_pairs<O: Operator>(
     show(alloc, all, keys, limit, ordinals)
 }
 
-// Promise: What a query gives over the pairs that it is lent is one of its answers
-// With: SlicePairs::new, is_pair, copy_seen
-/// What a query that isn't aggregated gives over the pairs that a source lends, as `select_from` over rows. No pair is copied that isn't
-/// kept, and without ORDER BY none after the last one that its LIMIT leaves is asked for. Refuses only for want of memory.
-pub fn select_pairs<'a, S: PairSource<'a>>(
+// What is shown of the first pairs in the order of ORDER BY, of which no more are held than LIMIT needs.
+fn show_first_pairs<'a, S: PairSource<'a>>(
+    alloc: Global,
+    query: &Query,
+    pairs: S,
+    most: usize,
+    ordinals: Items<usize>,
+) -> Result<Items<Row>, AllocError>
+    requires { IsWithin most query.now.limit }
+    ensures ok { IfOk result (IsSortedSlice query.now.order_by query.now.limit ordinals (filter (is_kept query.now.filter) (S.to_come pairs))) }
+{
+    let keys = query.order_by.as_slice();
+    let rows = first_pairs(alloc, &query.filter, pairs, keys, most)?;
+    let mut shown = Project::new(Limit::new(Rows::from_vec(rows), query.limit), ordinals);
+    collect(alloc, &mut shown)
+}
+
+// What is shown of the pairs, each of which is copied if it is kept.
+fn show_pairs<'a, S: PairSource<'a>>(
     alloc: Global,
     query: &'a Query,
     pairs: S,
+    ordinals: Items<usize>,
 ) -> Result<Items<Row>, AllocError>
-    requires plain { is_aggregated query.now ≡ false }
-    ensures ok { IfOk result (IsAnswer query.now (S.to_come pairs)) }
+    ensures ok { IfOk result (IsSortedSlice query.now.order_by query.now.limit ordinals (filter (is_kept query.now.filter) (S.to_come pairs))) }
 {
-    let ordinals = shown_ordinals(alloc, query.items.as_slice())?;
     let kept = KeptPairs {
         condition: &query.filter,
         pairs,
@@ -215,4 +230,38 @@ pub fn select_pairs<'a, S: PairSource<'a>>(
         query.limit,
         ordinals,
     )
+}
+
+// What is shown of the pairs.
+fn sorted_pairs<'a, S: PairSource<'a>>(
+    alloc: Global,
+    query: &'a Query,
+    pairs: S,
+    ordinals: Items<usize>,
+) -> Result<Items<Row>, AllocError>
+    ensures ok { IfOk result (IsSortedSlice query.now.order_by query.now.limit ordinals (filter (is_kept query.now.filter) (S.to_come pairs))) }
+{
+    if query.order_by.is_empty() {
+        return show_pairs(alloc, query, pairs, ordinals);
+    }
+    match front_of(query.limit) {
+        Some(most) => show_first_pairs(alloc, query, pairs, most, ordinals),
+        None => show_pairs(alloc, query, pairs, ordinals),
+    }
+}
+
+// Promise: What a query gives over the pairs that it is lent is one of its answers
+// With: SlicePairs::new, is_pair, copy_seen
+/// What a query that isn't aggregated gives over the pairs that a source lends, as `select_from` over rows. No pair is copied that isn't
+/// kept, none with ORDER BY and a small LIMIT that isn't among the first ones so far, and without ORDER BY none after the last one that its LIMIT leaves is asked for. Refuses only for want of memory.
+pub fn select_pairs<'a, S: PairSource<'a>>(
+    alloc: Global,
+    query: &'a Query,
+    pairs: S,
+) -> Result<Items<Row>, AllocError>
+    requires plain { is_aggregated query.now ≡ false }
+    ensures ok { IfOk result (IsAnswer query.now (S.to_come pairs)) }
+{
+    let ordinals = shown_ordinals(alloc, query.items.as_slice())?;
+    sorted_pairs(alloc, query, pairs, ordinals)
 }

@@ -10,6 +10,7 @@ mod groups;
 mod joins;
 mod narrowed;
 mod ordered;
+mod pair_fronts;
 mod queries;
 mod rows;
 mod shown_rows;

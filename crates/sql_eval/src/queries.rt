@@ -88,7 +88,7 @@ pub fn show(
 const FRONT: u64 = 1_000;
 
 /// How many of the first rows a limit needs, if these are few.
-fn front_of(limit: Option<sql_tree::LimitClause>) -> Option<usize>
+pub(crate) fn front_of(limit: Option<sql_tree::LimitClause>) -> Option<usize>
     ensures { IfSome result (λ most. IsWithin most limit) }
 {
     match limit {
