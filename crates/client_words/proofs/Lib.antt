@@ -1,1 +1,2 @@
+pub mod AliasLemmas
 pub mod Sayings

@@ -8,6 +8,7 @@ use Rattle.client_statements.specs.tokens.Pieces.{lexeme_of, lexemes_of}
 use Rattle.client_statements.specs.tokens.Tokens.{HasTokens}
 use Rattle.client_words.specs.declared.saying.Said.{Said}
 use Rattle.client_words.specs.Spelling.{Lexemes, spelled}
+use Rattle.client_words.specs.Aliases.{Names, unaliased}
 use Rattle.client_words.specs.Forms.{table_of, form_at}
 use Rattle.client_words.specs.Sayings.{Becomes, IsSaidAs}
 use Rattle.client_words.specs.Sayings as s
@@ -34,13 +35,23 @@ one_becomes table _ _ _ _ same (s.word {t = t1} {ts = ts1} {more = m1} is1 b1) (
     let tail : ts1 ≡ ts2 = cc in
     rw (head, one_becomes table ts1 ts2 m1 m2 tail b1 b2) refl
 
-pub one_said : (text a b : List ℕ) (names others : List (Option (List ℕ))) → ((ts us : List Token) → HasTokens text ts → HasTokens text us → ts ≡ us)
+pub one_said : (text a b : List ℕ) (names others : Names) → ((ts us : List Token) → HasTokens text ts → HasTokens text us → ts ≡ us)
     → IsSaidAs text a names → IsSaidAs text b others → (a ≡ b) × (names ≡ others)
 one_said text a b _ _ one (s.said {tokens = ts} has becomes) (s.said {tokens = us} has_too becomes_too) =
-    let same : lexemes_of text ts ≡ lexemes_of text us = ap (lexemes_of text) (one ts us has has_too) in
-    let again : Becomes (table_of (lexemes_of text ts)) (lexemes_of text us) b =
-    subst (λ (x : Lexemes). Becomes (table_of x) (lexemes_of text us) b) (sym same) becomes_too in
-    (one_becomes (table_of (lexemes_of text ts)) (lexemes_of text ts) (lexemes_of text us) a b same becomes again, refl)
+    let first = unaliased (lexemes_of text ts) in
+    let second = unaliased (lexemes_of text us) in
+    let plain : first ≡ second = ap (λ (x : List Token). unaliased (lexemes_of text x)) (one ts us has has_too) in
+    let same : first.0 ≡ second.0 = ap (λ (x : Lexemes × Names). x.0) plain in
+    let again : Becomes (table_of first.0) second.0 b = subst (λ (x : Lexemes). Becomes (table_of x) second.0 b) (sym same) becomes_too in
+    (one_becomes (table_of first.0) first.0 second.0 a b same becomes again, ap (λ (x : Lexemes × Names). x.1) plain)
+
+pub found_said : (text whole : List ℕ) (tokens : List Token) (plain : Lexemes) (names : Names) → HasTokens text tokens
+    → (plain, names) ≡ unaliased (lexemes_of text tokens) → Becomes (table_of plain) plain whole → IsSaidAs text whole names
+found_said text whole tokens plain names has is becomes =
+    let query = unaliased (lexemes_of text tokens) in
+    let same : plain ≡ query.0 = ap (λ (x : Lexemes × Names). x.0) is in
+    let named : names ≡ query.1 = ap (λ (x : Lexemes × Names). x.1) is in
+    subst (IsSaidAs text whole) (sym named) (s.said has (subst (λ (ts : Lexemes). Becomes (table_of ts) ts whole) same becomes))
 
 -- a text that is said in other words has tokens
 pub has_some : (text whole : List ℕ) (names : List (Option (List ℕ))) → IsSaidAs text whole names → (tokens : List Token) × HasTokens text tokens

@@ -1,4 +1,7 @@
+pub mod Aliases
 pub mod Forms
+pub mod Marks
+pub mod Reserved
 pub mod Sayings
 pub mod Spelling
 pub mod inner

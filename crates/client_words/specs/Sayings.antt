@@ -4,6 +4,7 @@ use Rattle.client_statements.specs.declared.tokens.token.Token.{Token}
 use Rattle.client_statements.specs.tokens.Pieces.{Lexeme, lexemes_of}
 use Rattle.client_statements.specs.tokens.Tokens.{HasTokens}
 use Rattle.client_words.specs.Spelling.{Lexemes, spelled}
+use Rattle.client_words.specs.Aliases.{Names, unaliased}
 use Rattle.client_words.specs.Forms.{table_of, form_at}
 
 -- By the table of the statement its tokens become this text: front to back, each form what is written in its place, and each other token as it is spelled
@@ -13,6 +14,8 @@ pub data Becomes (table : Option (List ℕ)) : Lexemes → List ℕ → Type 0 w
       → Becomes table (t ∷ ts) (written ++ more)
   word : {t : Lexeme} {ts : Lexemes} {more : List ℕ} → form_at table (t ∷ ts) ≡ None → Becomes table ts more → Becomes table (t ∷ ts) (spelled (t ∷ []) ++ more)
 
--- What a client says is this text, and gives its columns these names, in order: no form names one yet. Its tokens, without comments, become it.
-pub data IsSaidAs : List ℕ → List ℕ → List (Option (List ℕ)) → Type 0 where
-  said : {text whole : List ℕ} {tokens : List Token} → HasTokens text tokens → Becomes (table_of (lexemes_of text tokens)) (lexemes_of text tokens) whole → IsSaidAs text whole []
+-- What a client says is this text, and gives its columns these names, in order. Its tokens, without comments and aliases, become it.
+pub data IsSaidAs : List ℕ → List ℕ → Names → Type 0 where
+  said : {text whole : List ℕ} {tokens : List Token} → HasTokens text tokens
+      → Becomes (table_of (unaliased (lexemes_of text tokens)).0) (unaliased (lexemes_of text tokens)).0 whole
+      → IsSaidAs text whole (unaliased (lexemes_of text tokens)).1

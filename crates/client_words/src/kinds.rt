@@ -3,15 +3,21 @@ use client_statements::tokens::{Keyword, Sign, TokenKind};
 
 pub const AND: TokenKind = TokenKind::Word(Some(Keyword::And));
 
+pub const AS: TokenKind = TokenKind::Word(Some(Keyword::As));
+
 pub const BEGIN: TokenKind = TokenKind::Word(Some(Keyword::Begin));
 
 pub const BETWEEN: TokenKind = TokenKind::Word(Some(Keyword::Between));
 
 pub const COMMIT: TokenKind = TokenKind::Word(Some(Keyword::Commit));
 
+pub const INNER: TokenKind = TokenKind::Word(Some(Keyword::Inner));
+
 pub const INSERT: TokenKind = TokenKind::Word(Some(Keyword::Insert));
 
 pub const INTO: TokenKind = TokenKind::Word(Some(Keyword::Into));
+
+pub const JOIN: TokenKind = TokenKind::Word(Some(Keyword::Join));
 
 pub const LIMIT: TokenKind = TokenKind::Word(Some(Keyword::Limit));
 

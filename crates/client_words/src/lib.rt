@@ -1,9 +1,11 @@
 //! What a client says in other words than SQL as it is read here: the text of the grammar that means the same.
 #![tactic(auto)]
 
+mod aliases;
 mod forms;
 mod kinds;
 mod operands;
+mod reserved;
 mod saying;
 mod spelling;
 mod tables;

@@ -5,6 +5,7 @@ ghost use Rattle.client_words.specs.Forms.{table_of};
 ghost use Rattle.client_words.specs.Sayings.{Becomes, IsSaidAs};
 ghost use Rattle.client_words.specs.inner.Written.{IsPut};
 
+use crate::aliases::unaliased;
 use crate::forms::form;
 use crate::spelling::{put, put_word};
 use crate::tables::table_of;
@@ -83,10 +84,11 @@ pub fn said_as(alloc: Global, text: &[u8]) -> Result<Option<Said>, AllocError>
     let Some(tokens) = lex(alloc, text)? else {
         return Ok(None);
     };
-    let text = said_text(alloc, text, tokens.as_slice())?;
+    let query = unaliased(alloc, text, Items::from_vec(tokens))?;
+    let text = said_text(alloc, text, query.tokens.as_slice())?;
     Ok(Some(Said {
         text,
-        names: Items::new(alloc),
+        names: query.names,
     }))
 }
 

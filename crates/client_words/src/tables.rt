@@ -16,7 +16,7 @@ use std::alloc::{AllocError, Global};
 use vt_value::{Items, Refusal};
 
 /// What a name says.
-fn name_of(alloc: Global, text: &[u8], token: &Token) -> Result<Option<Name>, AllocError>
+pub fn name_of(alloc: Global, text: &[u8], token: &Token) -> Result<Option<Name>, AllocError>
     ensures { IfOk result (λ name. name ≡ name_of (lexeme_of text.now token.now)) }
 {
     match token.kind {
@@ -63,7 +63,8 @@ pub fn table_of(alloc: Global, text: &[u8], tokens: &[Token]) -> Result<Option<N
     }
 }
 
-fn is_table(table: &Option<Name>, name: &Option<Name>) -> bool
+/// Whether a name is the table's.
+pub fn is_table(table: &Option<Name>, name: &Option<Name>) -> bool
     ensures { result ≡ is_table table.now name.now }
 {
     match (table, name) {

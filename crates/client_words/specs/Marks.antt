@@ -1,0 +1,29 @@
+-- Tokens that their kind tells.
+use Rattle.std.specs.Prelude.{Bool, true, false, Some}
+use Rattle.client_statements.specs.declared.tokens.token.Keyword.TheVariants as k
+use Rattle.client_statements.specs.declared.tokens.token.Sign.TheVariants.{Comma, Dot, RightParenthesis}
+use Rattle.client_statements.specs.tokens.Pieces.{Lexeme, bare, mark}
+
+unfoldable pub is_from : Lexeme → Bool
+is_from (bare (Some k.From) w) = true
+is_from _ = false
+
+unfoldable pub is_as : Lexeme → Bool
+is_as (bare (Some k.As) w) = true
+is_as _ = false
+
+unfoldable pub is_comma : Lexeme → Bool
+is_comma (mark Comma) = true
+is_comma _ = false
+
+unfoldable pub is_close : Lexeme → Bool
+is_close (mark RightParenthesis) = true
+is_close _ = false
+
+unfoldable pub is_dot : Lexeme → Bool
+is_dot (mark Dot) = true
+is_dot _ = false
+
+unfoldable pub is_order : Lexeme → Bool
+is_order (bare (Some k.Order) w) = true
+is_order _ = false
