@@ -104,7 +104,7 @@ module _ (o : Opening) (l : Limits) (handshake : Handshake) where
       follow_on s.pass mid.pass now.pass (run_on set s mid text (Refused SyntaxError) runs) (run_on set mid now whole outcome again)
   text_on set _ s _ text _ (given.asked {outcome} {reply} {then} {mid} {now} statement runs not_run is_asked answers) =
       follow_on s.pass mid.pass now.pass (run_on set s mid text outcome runs) (client_on set then mid now statement reply answers)
-  text_on set _ s _ text _ (given.not_held is_asked) = stays o l s.pass
+  text_on set _ s _ text _ (given.not_held sets is_asked) = stays o l s.pass
   text_on set _ s _ text _ given.not_looked = stays o l s.pass
   text_on set _ s _ text _ (given.unread {outcome} {now} runs not_run) = run_on set s now text outcome runs
 
@@ -255,7 +255,7 @@ module _ (o : Opening) (l : Limits) (handshake : Handshake) where
         client_alone database.0 mid database.1 set then statement reply now answers (first.legal legal)
         (trailing s.pass now.pass others mid.pass first.later second.later first.session) in
         (two.0, two.1, given.asked statement database.2 not_run is_asked two.2)
-    text_alone x s e set _ text _ _ (given.not_held is_asked) legal others = (x, e, given.not_held is_asked)
+    text_alone x s e set _ text _ _ (given.not_held sets is_asked) legal others = (x, e, given.not_held sets is_asked)
     text_alone x s e set _ text _ _ given.not_looked legal others = (x, e, given.not_looked)
     text_alone x s e set _ text _ _ (given.unread {outcome} {now} runs not_run) legal others =
         let after = run_alone x s e set text outcome now runs legal others in

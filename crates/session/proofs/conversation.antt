@@ -1,6 +1,7 @@
 pub mod ColumnLemmas
 pub mod CommandLemmas
 pub mod RepliesLemmas
+pub mod SetTexts
 pub mod LoginLemmas
 pub mod Conversations
 pub mod Written
@@ -8,5 +9,6 @@ pub mod Readings
 pub mod TextColumns
 pub mod OwnAnswers
 pub mod TextLemmas
+pub mod NamedColumns
 pub mod KeptLemmas
 pub mod StatementReplies

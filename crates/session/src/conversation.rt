@@ -11,6 +11,7 @@ mod devices;
 mod end;
 mod local_answers;
 mod login;
+mod named_columns;
 mod prepared;
 mod reply;
 mod responder;

@@ -52,7 +52,7 @@ use Rattle.session.proofs.conversation.LoginLemmas.{one_login}
 use Rattle.client_statements.specs.declared.answers.ClientAnswer.{ClientAnswer}
 use Rattle.client_statements.specs.declared.statement.ClientStatement.{ClientStatement}
 use Rattle.session.specs.conversation.SessionContext.{SessionContext, status_flags, status_in}
-use Rattle.session.specs.conversation.GivesText.{TellsAnswer, TellsClient, AnswersClient, OpensOne, NeedsOne, RunsText, GivesText}
+use Rattle.session.specs.conversation.GivesText.{TellsAnswer, TellsClient, AnswersClient, OpensOne, NeedsOne, RunsText, GivesText, named_outcome}
 use Rattle.session.specs.conversation.GivesText as g
 use Rattle.session.specs.conversation.Talk.{AnswersPayload, Replies, Conversation, set_end_of}
 use Rattle.session.specs.conversation.Talk as t
@@ -263,16 +263,23 @@ unshown_run o l handshake set s _ text _ (g.after_begin {outcome} {mid} {now} ne
 unshown_run o l handshake set s _ text _ (g.not_begun needs opens may) rows = absurd rows
 unshown_run o l handshake set s _ text _ (g.not_read needs) rows = absurd rows
 
+-- names are given to the columns of rows alone
+pub rows_unnamed : (names : List (Option (List ℕ))) (outcome : Outcome) → IsRows (named_outcome names outcome) → IsRows outcome
+rows_unnamed names (Rows set) rows = tt
+rows_unnamed names (Count n) rows = absurd rows
+rows_unnamed names (Refused why) rows = absurd rows
+
 unshown_text : (o : Opening) (l : Limits) (handshake : Handshake) (set then : Settings) (s now : PassAndTransaction) (text : List ℕ) (outcome : Outcome)
     → GivesText (context_of o handshake) (Means o l) set s text outcome then now → IsRows outcome
     → GivesText (context_of o handshake) (Means o l) set s text (Refused OutOfMemory) then now
 unshown_text o l handshake set _ s _ text _ (g.run {outcome} {now} runs not_run held unsaid) rows =
     g.run (unshown_run o l handshake set s now text outcome runs rows) (λ e statement is_asked. cc) held (λ e whole names is_said. cc)
 unshown_text o l handshake set _ s _ text _ (g.said {outcome} {mid} {now} whole names runs none is_said again) rows =
-    g.said whole names runs none is_said (unshown_run o l handshake set mid now whole outcome again rows)
+    g.said {outcome = Refused OutOfMemory} whole names runs none is_said
+    (unshown_run o l handshake set mid now whole outcome again (rows_unnamed names outcome rows))
 unshown_text o l handshake set _ s _ text _ (g.asked {reply} {then} {mid} {now} statement runs not_run is_asked answers) rows =
     g.asked statement runs not_run is_asked (unshown_client o l handshake set then mid now statement reply answers rows)
-unshown_text o l handshake set _ s _ text _ (g.not_held is_asked) rows = absurd rows
+unshown_text o l handshake set _ s _ text _ (g.not_held sets is_asked) rows = absurd rows
 unshown_text o l handshake set _ s _ text _ g.not_looked rows = absurd rows
 unshown_text o l handshake set _ s _ text _ (g.unread runs not_run) rows = absurd rows
 
@@ -415,3 +422,15 @@ login_kept o l handshake keyspaces p kept at then payload status out connection_
       one_login (context_of o handshake) (Means o l) at then keyspaces s payload out connection_state is known
           (subst (λ (n : ℕ). LogsIn handshake keyspaces n then payload out connection_state) status_now logs),
     )
+
+-- what other words give under their names; if there is no memory for these, F1
+pub said_or_full : (o : Opening) (l : Limits) (handshake : Handshake) (set : Settings) (p q : PassView Entry) (kept then : Option OpenView) (whole : List ℕ)
+    (names : List (Option (List ℕ))) (outcome told : Outcome) → (told ≡ named_outcome names outcome) ⊎ (IsRows outcome × (told ≡ Refused OutOfMemory))
+    → LeadsKept o p kept q then (λ s now. RunsText (context_of o handshake) (Means o l) set s whole outcome now)
+    → (x : Outcome) × (told ≡ named_outcome names x) × LeadsKept o p kept q then (λ s now. RunsText (context_of o handshake) (Means o l) set s whole x now)
+said_or_full o l handshake set p q kept then whole names outcome told (inl is) leads = (outcome, is, leads)
+said_or_full o l handshake set p q kept then whole names outcome told (inr (rows, is)) leads = (
+  Refused OutOfMemory,
+  is,
+  λ s held. let next = leads s held in (next.0, next.1, unshown_run o l handshake set s next.0 whole outcome next.2 rows),
+)

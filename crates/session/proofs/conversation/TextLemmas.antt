@@ -10,7 +10,7 @@ use Rattle.resultset.specs.declared.Outcome.{Outcome}
 use Rattle.resultset.specs.declared.Outcome.TheVariants.{Refused}
 use Rattle.client_statements.specs.declared.statement.ClientStatement.{ClientStatement}
 use Rattle.client_statements.specs.declared.statement.ClientStatement.TheVariants.{Set, NotSupported}
-use Rattle.client_statements.specs.Asks.{Asks}
+use Rattle.client_statements.specs.Asks.{Asks, IsSet}
 use Rattle.journal.specs.Views.{PassView}
 use Rattle.shard_run.specs.declared.Entry.{Entry}
 use Rattle.shard_run.specs.Runs.{Opening}
@@ -106,7 +106,7 @@ module _ {S : Type 0} (context : SessionContext S) (May : S → List ℕ → Out
   given_asked s mid _ text outcome why _ _ runs not_run is inner.unread = g.unread runs not_run
 
   -- a text that is refused before it is run
-  pub gives_refusal : (s : S) (text : List ℕ) (why : Refusal) → (why ≡ OutOfMemory) ⊎ ((why ≡ refused.NotSupported) × Asks text NotSupported)
+  pub gives_refusal : (s : S) (text : List ℕ) (why : Refusal) → (why ≡ OutOfMemory) ⊎ ((why ≡ refused.NotSupported) × IsSet text × Asks text NotSupported)
       → GivesText context May set s text (Refused why) set s
   gives_refusal s text why (inl full) = subst (λ (x : Refusal). GivesText context May set s text (Refused x) set s) (sym full) g.not_looked
-  gives_refusal s text why (inr (is, is_asked)) = subst (λ (x : Refusal). GivesText context May set s text (Refused x) set s) (sym is) (g.not_held is_asked)
+  gives_refusal s text why (inr (is, sets, is_asked)) = subst (λ (x : Refusal). GivesText context May set s text (Refused x) set s) (sym is) (g.not_held sets is_asked)

@@ -92,6 +92,23 @@ is_not_run (Refused r.SyntaxError) = true
 is_not_run (Refused r.NotSupported) = true
 is_not_run _ = false
 
+-- a column under the name that a client gave it
+abbrev pub named_column : Option (Option (List ℕ)) → R.Column → R.Column
+named_column None column = column
+named_column (Some None) column = column
+named_column (Some (Some name)) column = record column { name = name }
+
+-- columns under such names, in order; those after these keep theirs
+abbrev pub named_columns : List (Option (List ℕ)) → List R.Column → List R.Column
+named_columns [] columns = columns
+named_columns (n ∷ names) [] = []
+named_columns (n ∷ names) (c ∷ columns) = named_column (Some n) c ∷ named_columns names columns
+
+abbrev pub named_outcome : List (Option (List ℕ)) → Outcome → Outcome
+named_outcome names (Rows shown) = Rows (record shown { columns = named_columns names shown.columns })
+named_outcome names (Count n) = Count n
+named_outcome names (Refused why) = Refused why
+
 module _ {S : Type 0} (context : SessionContext S) (May : S → List ℕ → Outcome → S → Type 0) (set : Settings) where
   -- What a statement gives that asks something of the server. START TRANSACTION with what each transaction here has is BEGIN. Autocommit that is
   -- turned on commits an open transaction as COMMIT does; if that is refused it stays off.
@@ -117,8 +134,8 @@ module _ {S : Type 0} (context : SessionContext S) (May : S → List ℕ → Out
     not_read : NeedsOne context set s → RunsText s text (Refused r.OutOfMemory) s
 
   -- What a text gives, what holds for commands then, and what the session has then seen. A text that isn't run and asks something of the
-  -- server is answered that. A SET of what the server can't be set to is refused, also if it has a tree. One that has no tree and asks nothing gives what its other words do. If there
-  -- is no memory to read what it asks or says, that is told.
+  -- server is answered that. A SET of what the server can't be set to is refused, also if it has a tree. One that has no tree and asks nothing gives what
+  -- its other words do, under the names that it gives columns. If there is no memory to read what it asks or says, that is told.
   pub data GivesText (s : S) (text : List ℕ) : Outcome → Settings → S → Type 0 where
     run : {outcome : Outcome} {now : S} → RunsText s text outcome now → (is_not_run outcome ≡ true → (statement : ClientStatement) → Asks text statement → ⊥)
         → (IsSet text → Asks text NotSupported → ⊥) → (outcome ≡ Refused r.SyntaxError → (whole : List ℕ) (names : List (Option (List ℕ))) → IsSaidAs text whole names → ⊥)
@@ -127,7 +144,7 @@ module _ {S : Type 0} (context : SessionContext S) (May : S → List ℕ → Out
         → Asks text statement → AnswersClient mid statement reply then now → GivesText s text reply then now
     said : {outcome : Outcome} {mid now : S} (whole : List ℕ) (names : List (Option (List ℕ))) → RunsText s text (Refused r.SyntaxError) mid
         → ((statement : ClientStatement) → Asks text statement → ⊥) → IsSaidAs text whole names → RunsText mid whole outcome now
-        → GivesText s text outcome set now
-    not_held : Asks text NotSupported → GivesText s text (Refused r.NotSupported) set s
+        → GivesText s text (named_outcome names outcome) set now
+    not_held : IsSet text → Asks text NotSupported → GivesText s text (Refused r.NotSupported) set s
     not_looked : GivesText s text (Refused r.OutOfMemory) set s
     unread : {outcome : Outcome} {now : S} → RunsText s text outcome now → is_not_run outcome ≡ true → GivesText s text (Refused r.OutOfMemory) set now

@@ -8,12 +8,13 @@ ghost use Rattle.client_statements.specs.Answers.{has_client_answer, IsClientAns
 ghost use Rattle.client_statements.specs.Asks.{Asks, IsSet};
 ghost use Rattle.session.specs.declared.conversation.access.Handshake.{Handshake};
 ghost use Rattle.session.specs.conversation.GivesText.{DefinesText, AllTexts, facts_of, TellsAnswer, TellsClient, is_not_run};
-ghost use Rattle.session.specs.conversation.inner.Tellings.{turns_on, refusal_of, is_syntax_error};
+ghost use Rattle.session.specs.conversation.inner.Tellings.{turns_on, refusal_of, is_syntax_error, leads_set};
 
 use crate::conversation::access::Handshake;
 use crate::conversation::client_reply::{ClientReply, ClientReplyKind, ShownSet};
 use crate::conversation::connection_state::Settings;
 use crate::conversation::login::keyspace_named;
+use client_statements::tokens::{Keyword, Token, TokenKind, lex};
 use client_statements::{ClientAnswer, ClientStatement, Facts, answer, may_set, read};
 use resultset::{Column, ColumnText, Kind};
 use route_engine::ShownRows;
@@ -21,6 +22,8 @@ use sql_tree::Name;
 use std::alloc::{AllocError, Global};
 use vschema::VSchema;
 use vt_value::{Items, Refusal, Row};
+
+const SET: TokenKind = TokenKind::Word(Some(Keyword::Set));
 
 /// The refusal of a text that isn't SQL over tables, or none that is run.
 pub fn not_run(outcome: &ClientReply) -> Option<Refusal>
@@ -55,9 +58,29 @@ fn refusal_of(asks: &Result<Option<ClientStatement>, AllocError>) -> Option<Refu
     }
 }
 
-/// The refusal of a SET of what the server can't be set to. SQL has a tree for some that name a character set, so that this is asked before.
-#[inline(never)]
-fn read_set_refusal(alloc: Global, text: &[u8]) -> Option<Refusal>
+/// Whether SET is the first token.
+fn leads_set(tokens: &[Token]) -> bool
+    ensures { result ≡ leads_set tokens.now }
+{
+    match tokens {
+        [Token { kind: SET, .. }, ..] => true,
+        _ => false,
+    }
+}
+
+/// Whether SET is a text's first token.
+fn is_set(alloc: Global, text: &[u8]) -> Result<bool, AllocError>
+    ensures yes { IfOk result (λ is. is ≡ true → IsSet text.now) }
+    ensures no { IfOk result (λ is. is ≡ false → IsSet text.now → ⊥) }
+{
+    let Some(tokens) = lex(alloc, text)? else {
+        return Ok(false);
+    };
+    Ok(leads_set(tokens.as_slice()))
+}
+
+/// The refusal of what the server can't do.
+fn asked_refusal(alloc: Global, text: &[u8]) -> Option<Refusal>
     ensures none { IsNone result → Asks text.now ClientStatement.NotSupported → ⊥ }
     ensures some { IfSome result (λ why. (why ≡ Refusal.OutOfMemory) ⊎ ((why ≡ Refusal.NotSupported) × Asks text.now ClientStatement.NotSupported)) }
 {
@@ -67,11 +90,24 @@ fn read_set_refusal(alloc: Global, text: &[u8]) -> Option<Refusal>
     refusal
 }
 
+/// The refusal of a SET of what the server can't be set to. SQL has a tree for some that name a character set, so that this is asked before.
+#[inline(never)]
+fn read_set_refusal(alloc: Global, text: &[u8]) -> Option<Refusal>
+    ensures none { IsNone result → IsSet text.now → Asks text.now ClientStatement.NotSupported → ⊥ }
+    ensures some { IfSome result (λ why. (why ≡ Refusal.OutOfMemory) ⊎ ((why ≡ Refusal.NotSupported) × IsSet text.now × Asks text.now ClientStatement.NotSupported)) }
+{
+    match is_set(alloc, text) {
+        Ok(true) => asked_refusal(alloc, text),
+        Ok(false) => None,
+        Err(_) => Some(Refusal::OutOfMemory),
+    }
+}
+
 /// The same, of a text that need not be a SET.
 #[inline(always)]
 pub fn set_refusal(alloc: Global, text: &[u8]) -> Option<Refusal>
     ensures none { IsNone result → IsSet text.now → Asks text.now ClientStatement.NotSupported → ⊥ }
-    ensures some { IfSome result (λ why. (why ≡ Refusal.OutOfMemory) ⊎ ((why ≡ Refusal.NotSupported) × Asks text.now ClientStatement.NotSupported)) }
+    ensures some { IfSome result (λ why. (why ≡ Refusal.OutOfMemory) ⊎ ((why ≡ Refusal.NotSupported) × IsSet text.now × Asks text.now ClientStatement.NotSupported)) }
 {
     if may_set(text) {
         read_set_refusal(alloc, text)

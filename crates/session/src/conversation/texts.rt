@@ -10,7 +10,7 @@ ghost use Rattle.session.specs.declared.conversation.access.Handshake.{Handshake
 ghost use Rattle.session.specs.declared.conversation.connection_state.Settings.{Settings};
 ghost use Rattle.session.specs.conversation.Columns.{AreColumns};
 ghost use Rattle.session.specs.conversation.Means.{Means, Shows, HasRows, context_of};
-ghost use Rattle.session.specs.conversation.GivesText.{opens_one, OpensOne, RunsText, AnswersClient, GivesText};
+ghost use Rattle.session.specs.conversation.GivesText.{opens_one, OpensOne, RunsText, AnswersClient, GivesText, named_outcome};
 ghost use Rattle.session.specs.conversation.inner.Means.{LeadsKept, GivesNoRows, IsReading, AnswersAsked, opens_read};
 ghost use Rattle.session.specs.conversation.inner.Tellings.{turns_on};
 
@@ -18,9 +18,10 @@ use crate::conversation::client_reply::{ClientReply, ClientReplyKind, ShownSet};
 use crate::conversation::columns::columns_of;
 use crate::conversation::connection_state::Settings;
 use crate::conversation::local_answers::{done, is_syntax_error, local_answer, refused, turns_on};
+use crate::conversation::named_columns::named;
 use crate::conversation::responder::Responder;
 use client_statements::{ClientStatement, read};
-use client_words::said_as;
+use client_words::{Said, said_as};
 use journal::Naming;
 use route_engine::{Answer, Gate, Selected, ShardPass, Tx, World};
 use sql_parser::parse;
@@ -300,6 +301,25 @@ impl<
         }
     }
 
+    /// What other words for a text give, under the names that it gives columns.
+    fn run_said(
+        &self,
+        pass: &mut ShardPass<W, J>,
+        tx: &mut Tx<W, J>,
+        settings: Settings,
+        said: &Said,
+    ) -> ClientReply<'e>
+        requires session { IsSome pass.old.session }
+        requires tx { IsOf W.opening tx.old pass.old }
+        ensures runs { (handshake : Handshake) → (outcome : Outcome) × (result ≡ named_outcome said.now.names outcome) × LeadsKept W.opening pass.old tx.old pass.new tx.new
+            (λ s now. RunsText (context_of W.opening handshake) (Means W.opening W.limits) settings s said.now.text outcome now) }
+        ensures tx { IsOf W.opening tx.new pass.new }
+        ensures session { pass.new.session ≡ pass.old.session }
+    {
+        let outcome = self.run_text(pass, tx, settings, said.text.as_slice());
+        named(self.alloc, outcome, said.names.as_slice())
+    }
+
     /// What a text gives that asks nothing of the server: if it has no tree, by other words. If it has none either, it is refused for why it wasn't run.
     fn answer_said(
         &self,
@@ -321,7 +341,7 @@ impl<
         }
         match said_as(self.alloc, text) {
             Ok(Some(said)) => {
-                let outcome = self.run_text(pass, tx, settings, said.text.as_slice());
+                let outcome = self.run_said(pass, tx, settings, &said);
                 drop(said);
                 (outcome, settings)
             }

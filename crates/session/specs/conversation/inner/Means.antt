@@ -14,7 +14,7 @@ use Rattle.client_statements.specs.Asks.{Asks}
 use Rattle.client_words.specs.Sayings.{IsSaidAs}
 use Rattle.session.specs.declared.conversation.connection_state.Settings.{Settings}
 use Rattle.session.specs.conversation.SessionContext.{SessionContext}
-use Rattle.session.specs.conversation.GivesText.{opens_one, AnswersClient, RunsText}
+use Rattle.session.specs.conversation.GivesText.{opens_one, AnswersClient, RunsText, named_outcome}
 use Rattle.session.specs.conversation.Means.{PassAndTransaction, IsKept}
 
 -- From whatever pass and transaction were kept, this leads to some that are kept then.
@@ -45,7 +45,7 @@ pub data AnswersAsked {S : Type 0} (context : SessionContext S) (May : S → Lis
       → AnswersAsked context May set s text outcome outcome set s
   said : {reply : Outcome} {now : S} (whole : List ℕ) (names : List (Option (List ℕ))) → outcome ≡ Refused SyntaxError
       → ((statement : ClientStatement) → Asks text statement → ⊥) → IsSaidAs text whole names → RunsText context May set s whole reply now
-      → AnswersAsked context May set s text outcome reply set now
+      → AnswersAsked context May set s text outcome (named_outcome names reply) set now
   unread : AnswersAsked context May set s text outcome (Refused OutOfMemory) set s
 
 -- whether a text that was read opens a transaction; one without a tree opens none

@@ -14,10 +14,11 @@ returns-then-not-is_syntax_error-clause-gives g c = λ none s held. (
 
 pub returns-in-Ok-Some-clause-gives : goal.returns-in-Ok-Some-clause-gives
 returns-in-Ok-Some-clause-gives g c = λ none s held.
-    let next = c.run_text-outcome.ensures.runs c.args.self.now.handshake.now s held in
+    let runs = c.run_said-outcome.ensures.runs c.args.self.now.handshake.now in
+    let next = runs.2 s held in
     let is_said = rw c.in-Ok-Some.field-0-is at c.in-Ok-Some.ensures.found in
     let no_tree = syntax_error c.args.why (sym c.is_syntax_error.ensures ∙ c.if-not-is_syntax_error.false) in
-    (next.0, next.1, y.said _ _ no_tree none is_said (rw c.as_slice.ensures at next.2))
+    (next.0, next.1, rw runs.1 (y.said _ _ no_tree none is_said next.2))
 
 pub returns-in-Ok-None-clause-gives : goal.returns-in-Ok-None-clause-gives
 returns-in-Ok-None-clause-gives g c = λ none s held. (

@@ -1,0 +1,5 @@
+use Rattle.session.proofs.conversation.RepliesLemmas.{said_or_full}
+use Rattle.session.proofs.conversation.responder.Responder.run_said.Goals as goal
+
+pub returns-clause-runs : goal.returns-clause-runs
+returns-clause-runs g c = λ handshake. said_or_full _ _ handshake _ _ _ _ _ _ _ _ _ c.named.ensures (c.run_text-outcome.ensures.runs handshake)
