@@ -56,7 +56,7 @@ list_of (x ∷ t ∷ rest) =
 -- the names of its columns: this for the first one, unless it is named yet
 unfoldable pub names_from : Option (List ℕ) → Lexemes → Names
 names_from name [] = name ∷ []
-names_from name (x ∷ []) = if is_comma x then name ∷ None ∷ [] else name ∷ []
+names_from name (x ∷ []) = if is_from x then name ∷ [] else if is_comma x then name ∷ None ∷ [] else name ∷ []
 names_from name (x ∷ t ∷ rest) =
     if is_from x then name ∷ []
     else if is_comma x then name ∷ names_from None (t ∷ rest)

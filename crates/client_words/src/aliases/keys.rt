@@ -72,10 +72,10 @@ fn chosen(
     ensures { IfOk result (λ out. lexemes_of text.now out ≡ chosen word.now names.now (lexemes_of text.now list.now)) }
 {
     let mut out = Items::new(alloc);
-    let mut names = names;
+    let mut left = names;
     let mut rest = list;
     loop {
-        let [name, later @ ..] = names else {
+        let [name, later @ ..] = left else {
             return Ok(out);
         };
         let [first, after @ ..] = rest else {
@@ -83,7 +83,7 @@ fn chosen(
         };
         rest = after;
         if is_comma(first) {
-            names = later;
+            left = later;
             continue;
         }
         push_if_chosen(alloc, text, &mut out, word, name, first, after)?;

@@ -116,7 +116,6 @@ fn name_after<'s>(
 }
 
 /// Gives a column its name, if it ends at the first token. Returns the name of the column so far, and the tokens after it and its alias.
-#[tactic(auto, using(crate::proofs::AliasLemmas::comma_name))]
 fn push_name<'s>(
     alloc: Global,
     text: &[u8],
