@@ -13,7 +13,7 @@ use vt_value::{Items, Refusal};
 
 /// A column under a name.
 fn with_name(column: Column<'_>, name: Name) -> Column<'_>
-    ensures { result ≡ record column { name = name } }
+    ensures { result ≡ record column.entry { name = name } }
 {
     let Column {
         schema,
@@ -41,7 +41,7 @@ fn named_column<'e>(
     at: usize,
     column: Column<'e>,
 ) -> Result<Column<'e>, AllocError>
-    ensures { IfOk result (λ c. c ≡ named_column (slice_get names.now at) column) }
+    ensures { IfOk result (λ c. c ≡ named_column (slice_get names.now at) column.entry) }
 {
     match names.get(at) {
         Some(Some(name)) => Ok(with_name(column, Items::from_slice(alloc, name.as_slice())?)),
@@ -56,7 +56,7 @@ fn last_first<'e>(
     names: &[Option<Name>],
     columns: Items<Column<'e>>,
 ) -> Result<Vec<Column<'e>>, AllocError>
-    ensures { IfOk result (λ named. reverse named.items ≡ named_columns names.now columns) }
+    ensures { IfOk result (λ named. reverse named.items ≡ named_columns names.now columns.entry) }
 {
     let mut rest = columns;
     let mut named = Vec::new(alloc);
