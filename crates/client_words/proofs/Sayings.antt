@@ -9,8 +9,9 @@ use Rattle.client_statements.specs.tokens.Tokens.{HasTokens}
 use Rattle.client_words.specs.declared.saying.Said.{Said}
 use Rattle.client_words.specs.Spelling.{Lexemes, spelled}
 use Rattle.client_words.specs.Aliases.{Names, unaliased}
+use Rattle.client_words.specs.Distinct.{Parts, parts_of, group_text}
 use Rattle.client_words.specs.Forms.{table_of, form_at}
-use Rattle.client_words.specs.Sayings.{Becomes, IsSaidAs}
+use Rattle.client_words.specs.Sayings.{Becomes, IsWhole, IsSaidAs}
 use Rattle.client_words.specs.Sayings as s
 use Rattle.client_words.specs.inner.Written.{IsPut}
 
@@ -35,23 +36,43 @@ one_becomes table _ _ _ _ same (s.word {t = t1} {ts = ts1} {more = m1} is1 b1) (
     let tail : ts1 ≡ ts2 = cc in
     rw (head, one_becomes table ts1 ts2 m1 m2 tail b1 b2) refl
 
+pub one_whole : (ts us : Lexemes) (a b : List ℕ) → ts ≡ us → IsWhole ts a → IsWhole us b → a ≡ b
+one_whole ts us _ _ same (s.whole {front = f1} {tail = t1} front tail) (s.whole {front = f2} {tail = t2} front_too tail_too) =
+    let table : table_of us ≡ table_of ts = ap table_of (sym same) in
+    let fronts : f1 ≡ f2 =
+    one_becomes (table_of ts) (parts_of ts).front (parts_of us).front f1 f2 (ap (λ (x : Lexemes). (parts_of x).front) same) front
+    (subst (λ (x : Option (List ℕ)). Becomes x (parts_of us).front f2) table front_too) in
+    let tails : t1 ≡ t2 =
+    one_becomes (table_of ts) (parts_of ts).tail (parts_of us).tail t1 t2 (ap (λ (x : Lexemes). (parts_of x).tail) same) tail
+    (subst (λ (x : Option (List ℕ)). Becomes x (parts_of us).tail t2) table tail_too) in
+    let groups : group_text (parts_of ts).groups ≡ group_text (parts_of us).groups = ap (λ (x : Lexemes). group_text (parts_of x).groups) same in
+    rw (fronts, tails, groups) refl
+
+-- a text of its parts
+pub whole_said : (ts : Lexemes) (x : Parts) (table : Option (List ℕ)) (front tail out : List ℕ) → x ≡ parts_of ts → table ≡ table_of ts → Becomes table x.front front
+    → Becomes table x.tail tail → out ≡ (front ++ group_text x.groups) ++ tail → IsWhole ts out
+whole_said ts x table front tail out parts named becomes becomes_tail is =
+    let first = subst (λ (t : Option (List ℕ)). Becomes t (parts_of ts).front front) named (subst (λ (p : Parts). Becomes table p.front front) parts becomes) in
+    let second = subst (λ (t : Option (List ℕ)). Becomes t (parts_of ts).tail tail) named (subst (λ (p : Parts). Becomes table p.tail tail) parts becomes_tail) in
+    subst (IsWhole ts)
+    (sym (is ∙ append_assoc front (group_text x.groups) tail ∙ ap (λ (p : Parts). front ++ group_text p.groups ++ tail) parts))
+    (s.whole first second)
+
 pub one_said : (text a b : List ℕ) (names others : Names) → ((ts us : List Token) → HasTokens text ts → HasTokens text us → ts ≡ us)
     → IsSaidAs text a names → IsSaidAs text b others → (a ≡ b) × (names ≡ others)
-one_said text a b _ _ one (s.said {tokens = ts} has becomes) (s.said {tokens = us} has_too becomes_too) =
+one_said text a b _ _ one (s.said {tokens = ts} has whole) (s.said {tokens = us} has_too whole_too) =
     let first = unaliased (lexemes_of text ts) in
     let second = unaliased (lexemes_of text us) in
     let plain : first ≡ second = ap (λ (x : List Token). unaliased (lexemes_of text x)) (one ts us has has_too) in
-    let same : first.0 ≡ second.0 = ap (λ (x : Lexemes × Names). x.0) plain in
-    let again : Becomes (table_of first.0) second.0 b = subst (λ (x : Lexemes). Becomes (table_of x) second.0 b) (sym same) becomes_too in
-    (one_becomes (table_of first.0) first.0 second.0 a b same becomes again, ap (λ (x : Lexemes × Names). x.1) plain)
+    (one_whole first.0 second.0 a b (ap (λ (x : Lexemes × Names). x.0) plain) whole whole_too, ap (λ (x : Lexemes × Names). x.1) plain)
 
 pub found_said : (text whole : List ℕ) (tokens : List Token) (plain : Lexemes) (names : Names) → HasTokens text tokens
-    → (plain, names) ≡ unaliased (lexemes_of text tokens) → Becomes (table_of plain) plain whole → IsSaidAs text whole names
+    → (plain, names) ≡ unaliased (lexemes_of text tokens) → IsWhole plain whole → IsSaidAs text whole names
 found_said text whole tokens plain names has is becomes =
     let query = unaliased (lexemes_of text tokens) in
     let same : plain ≡ query.0 = ap (λ (x : Lexemes × Names). x.0) is in
     let named : names ≡ query.1 = ap (λ (x : Lexemes × Names). x.1) is in
-    subst (IsSaidAs text whole) (sym named) (s.said has (subst (λ (ts : Lexemes). Becomes (table_of ts) ts whole) same becomes))
+    subst (IsSaidAs text whole) (sym named) (s.said has (subst (λ (ts : Lexemes). IsWhole ts whole) same becomes))
 
 -- a text that is said in other words has tokens
 pub has_some : (text whole : List ℕ) (names : List (Option (List ℕ))) → IsSaidAs text whole names → (tokens : List Token) × HasTokens text tokens

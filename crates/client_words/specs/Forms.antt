@@ -1,16 +1,14 @@
 -- Forms of MySQL that the grammar says in other words: for each what it reads at the front, what is written in its place, and the tokens after it. By
 -- 'SQL Statements' and 'Comparison Functions and Operators' of MySQL's reference manual.
-use Rattle.std.specs.Prelude.{ℕ, Bool, true, false, ◌&&◌, List, [], ◌∷◌, ◌++◌, codes, bytes_eq, Option, Some, None, if◌then◌else◌}
+use Rattle.std.specs.Prelude.{ℕ, Bool, true, false, ◌&&◌, ◌||◌, List, [], ◌∷◌, ◌++◌, codes, bytes_eq, Option, Some, None, if◌then◌else◌}
 use Rattle.std.specs.Option.{option_or}
 use Rattle.sql_lexer.specs.inner.Results.{◌>>=◌}
+use Rattle.client_statements.specs.tokens.Keywords.{same_in_any_case}
 use Rattle.client_statements.specs.declared.tokens.token.Keyword.TheVariants as k
 use Rattle.client_statements.specs.declared.tokens.token.Sign.TheVariants.{Comma, Dot, Semicolon, Star, LeftParenthesis, RightParenthesis, Minus}
 use Rattle.client_statements.specs.tokens.Pieces.{Lexeme, bare, named, digits, quoted, operator, mark}
-use Rattle.client_words.specs.Spelling.{Lexemes, spelled}
-
--- what is written, and the tokens after what was read
-abbrev pub Written : Type 0
-Written = Option (List ℕ × Lexemes)
+use Rattle.client_words.specs.Spelling.{Lexemes, Written, spelled}
+use Rattle.client_words.specs.InsertSet.{insert_set_at}
 
 -- what a name says
 abbrev pub name_of : Lexeme → Option (List ℕ)
@@ -134,8 +132,22 @@ insert_at (bare (Some k.Insert) w ∷ rest) = Some (codes " INSERT INTO", rest)
 insert_at (mark RightParenthesis ∷ bare (Some k.Value) w ∷ mark LeftParenthesis ∷ rest) = Some (codes " ) VALUES (", rest)
 insert_at _ = None
 
+-- COUNT of a number counts rows, as COUNT(*) does
+unfoldable pub count_at : Lexemes → Written
+count_at (bare (Some k.Count) w ∷ mark LeftParenthesis ∷ digits n ∷ mark RightParenthesis ∷ rest) = Some (codes " COUNT ( * )", rest)
+count_at _ = None
+
+-- a text after the character set that it is of: its bytes
+abbrev pub is_introducer : List ℕ → Bool
+is_introducer w = same_in_any_case w (codes "_binary") || same_in_any_case w (codes "_utf8mb4")
+
+unfoldable pub introduced_at : Lexemes → Written
+introduced_at (bare key w ∷ quoted v ∷ rest) = if is_introducer w then Some (spelled (quoted v ∷ []), rest) else None
+introduced_at _ = None
+
 -- the one of these forms that is at the front
 unfoldable pub form_at : Option (List ℕ) → Lexemes → Written
 form_at table ts =
     option_or (between_at table ts) (option_or (qualifier_at table ts) (option_or (star_at ts)
-    (option_or (limit_at ts) (option_or (operator_at ts) (option_or (work_at ts) (insert_at ts))))))
+    (option_or (limit_at ts) (option_or (operator_at ts) (option_or (work_at ts) (option_or (insert_set_at ts)
+    (option_or (insert_at ts) (option_or (count_at ts) (introduced_at ts)))))))))

@@ -1,5 +1,7 @@
 pub mod Aliases
+pub mod Distinct
 pub mod Forms
+pub mod InsertSet
 pub mod Marks
 pub mod Reserved
 pub mod Sayings

@@ -1,7 +1,7 @@
 -- Tokens that their kind tells.
 use Rattle.std.specs.Prelude.{Bool, true, false, Some}
 use Rattle.client_statements.specs.declared.tokens.token.Keyword.TheVariants as k
-use Rattle.client_statements.specs.declared.tokens.token.Sign.TheVariants.{Comma, Dot, RightParenthesis}
+use Rattle.client_statements.specs.declared.tokens.token.Sign.TheVariants.{Comma, Dot, Equal, RightParenthesis, Semicolon}
 use Rattle.client_statements.specs.tokens.Pieces.{Lexeme, bare, mark}
 
 unfoldable pub is_from : Lexeme → Bool
@@ -27,3 +27,11 @@ is_dot _ = false
 unfoldable pub is_order : Lexeme → Bool
 is_order (bare (Some k.Order) w) = true
 is_order _ = false
+
+unfoldable pub is_equal : Lexeme → Bool
+is_equal (mark Equal) = true
+is_equal _ = false
+
+unfoldable pub is_semicolon : Lexeme → Bool
+is_semicolon (mark Semicolon) = true
+is_semicolon _ = false

@@ -5,6 +5,7 @@ use Rattle.client_statements.specs.tokens.Pieces.{Lexeme, lexemes_of}
 use Rattle.client_statements.specs.tokens.Tokens.{HasTokens}
 use Rattle.client_words.specs.Spelling.{Lexemes, spelled}
 use Rattle.client_words.specs.Aliases.{Names, unaliased}
+use Rattle.client_words.specs.Distinct.{parts_of, group_text}
 use Rattle.client_words.specs.Forms.{table_of, form_at}
 
 -- By the table of the statement its tokens become this text: front to back, each form what is written in its place, and each other token as it is spelled
@@ -14,8 +15,12 @@ pub data Becomes (table : Option (List ℕ)) : Lexemes → List ℕ → Type 0 w
       → Becomes table (t ∷ ts) (written ++ more)
   word : {t : Lexeme} {ts : Lexemes} {more : List ℕ} → form_at table (t ∷ ts) ≡ None → Becomes table ts more → Becomes table (t ∷ ts) (spelled (t ∷ []) ++ more)
 
+-- The tokens of a statement become this text: those before ORDER BY and LIMIT, then the groups of SELECT DISTINCT, then the others.
+pub data IsWhole (tokens : Lexemes) : List ℕ → Type 0 where
+  whole : {front tail : List ℕ} → Becomes (table_of tokens) (parts_of tokens).front front → Becomes (table_of tokens) (parts_of tokens).tail tail
+      → IsWhole tokens (front ++ group_text (parts_of tokens).groups ++ tail)
+
 -- What a client says is this text, and gives its columns these names, in order. Its tokens, without comments and aliases, become it.
 pub data IsSaidAs : List ℕ → List ℕ → Names → Type 0 where
   said : {text whole : List ℕ} {tokens : List Token} → HasTokens text tokens
-      → Becomes (table_of (unaliased (lexemes_of text tokens)).0) (unaliased (lexemes_of text tokens)).0 whole
-      → IsSaidAs text whole (unaliased (lexemes_of text tokens)).1
+      → IsWhole (unaliased (lexemes_of text tokens)).0 whole → IsSaidAs text whole (unaliased (lexemes_of text tokens)).1

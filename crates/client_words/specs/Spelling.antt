@@ -1,11 +1,15 @@
 -- How the tokens of what a client says are spelled in SQL.
-use Rattle.std.specs.Prelude.{ℕ, List, [], ◌∷◌, ◌++◌, codes, bytes_eq, Some, if◌then◌else◌}
+use Rattle.std.specs.Prelude.{ℕ, List, [], ◌∷◌, ◌++◌, codes, bytes_eq, Option, Some, if◌then◌else◌}
 use Rattle.client_statements.specs.declared.tokens.token.Keyword.TheVariants as k
 use Rattle.client_statements.specs.tokens.Pieces.{Lexeme, bare, named, system, digits, quoted, operator, mark, sign_text}
 use Rattle.sql_tree.specs.Printing as sql
 
 abbrev pub Lexemes : Type 0
 Lexemes = List Lexeme
+
+-- what is written, and the tokens after what was read
+abbrev pub Written : Type 0
+Written = Option (List ℕ × Lexemes)
 
 -- `&&` is AND, and `||` is OR
 abbrev pub operator_text : List ℕ → List ℕ

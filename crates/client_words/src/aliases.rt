@@ -6,4 +6,5 @@ mod list;
 mod query;
 mod sources;
 
+pub use alias::{is_close, is_comma, is_equal, is_from, is_semicolon, push};
 pub use query::{PlainQuery, unaliased};

@@ -1,18 +1,21 @@
 //! Forms of MySQL that the grammar says in other words.
-ghost use Rattle.std.specs.Prelude.{◌≡◌, ◌<◌, ◌++◌, ℕ, List, IfOk, OnOk, codes, length, slice_range, None, Some};
+ghost use Rattle.std.specs.Prelude.{◌≡◌, ◌<◌, ◌++◌, [], ◌∷◌, ℕ, List, IfOk, OnOk, codes, length, slice_range, None, Some};
 ghost use Rattle.std.specs.Option.{option_or};
 ghost use Rattle.sql_lexer.specs.inner.Results.{AgreesWith};
 ghost use Rattle.client_statements.specs.tokens.Pieces.{lexemes_of, said_by};
-ghost use Rattle.client_words.specs.Forms.{between_word_at, and_at, within_text, between_text, between_at, star_at, limit_at, if_operator, operator_at, work_at, insert_at, form_at};
+ghost use Rattle.client_words.specs.InsertSet.{insert_set_at};
+ghost use Rattle.client_words.specs.Spelling.{spelled};
+ghost use Rattle.client_words.specs.Forms.{between_word_at, and_at, within_text, between_text, between_at, star_at, limit_at, if_operator, operator_at, work_at, insert_at, count_at, is_introducer, introduced_at, form_at};
 
+use crate::insert_set::insert_set;
 use crate::kinds::{
-    AND, BEGIN, BETWEEN, CLOSE, COMMA, COMMIT, INSERT, INTO, LIMIT, NOT, NULL, OPEN, ROLLBACK,
-    VALUE, WORK,
+    AND, BEGIN, BETWEEN, CLOSE, COMMA, COMMIT, COUNT, INSERT, INTO, LIMIT, NOT, NULL, OPEN,
+    ROLLBACK, VALUE, WORK,
 };
-use crate::operands::{Written, operand};
+use crate::operands::{Written, one, operand};
 use crate::spelling::put;
 use crate::tables::{qualifier, star, unqualified};
-use client_statements::tokens::{Token, TokenKind, said};
+use client_statements::tokens::{Token, TokenKind, bytes_of, said, same_in_any_case};
 use sql_tree::Name;
 use std::alloc::{AllocError, Global};
 use vt_value::{Items, Refusal};
@@ -257,10 +260,95 @@ fn insert<'s>(alloc: Global, tokens: &'s [Token]) -> Result<Written<'s>, Refusal
     }
 }
 
+/// COUNT(1)
+#[tactic(auto, unfolding(crate::specs::Forms::count_at))]
+fn count<'s>(alloc: Global, tokens: &'s [Token]) -> Result<Written<'s>, Refusal>
+    ensures written { (text : List ℕ) → AgreesWith (λ x. (x.0, lexemes_of text x.1.now)) result (count_at (lexemes_of text tokens.now)) }
+    ensures shorter { IfOk result (λ x. length x.1.now < length tokens.now) }
+{
+    match tokens {
+        [
+            Token { kind: COUNT, .. },
+            Token { kind: OPEN, .. },
+            Token {
+                kind: TokenKind::Number,
+                ..
+            },
+            Token { kind: CLOSE, .. },
+            rest @ ..,
+        ] => Ok((fixed(alloc, b" COUNT ( * )")?, rest)),
+        _ => Err(Refusal::SyntaxError),
+    }
+}
+
+fn is_introducer(word: &[u8]) -> bool
+    ensures { result ≡ is_introducer word.now }
+{
+    same_in_any_case(word, b"_binary") || same_in_any_case(word, b"_utf8mb4")
+}
+
+/// A text after the character set that it is of.
+#[tactic(auto, unfolding(crate::specs::Forms::introduced_at))]
+fn introduced<'s>(alloc: Global, text: &[u8], tokens: &'s [Token]) -> Result<Written<'s>, Refusal>
+    ensures written { AgreesWith (λ x. (x.0, lexemes_of text.now x.1.now)) result (introduced_at (lexemes_of text.now tokens.now)) }
+    ensures shorter { IfOk result (λ x. length x.1.now < length tokens.now) }
+{
+    match tokens {
+        [
+            Token {
+                kind: TokenKind::Word(_),
+                start,
+                end,
+            },
+            value @ Token {
+                kind: TokenKind::Text,
+                ..
+            },
+            rest @ ..,
+        ] => {
+            if is_introducer(bytes_of(text, *start, *end)) {
+                Ok((one(alloc, text, value)?, rest))
+            } else {
+                Err(Refusal::SyntaxError)
+            }
+        }
+        _ => Err(Refusal::SyntaxError),
+    }
+}
+
+/// A form of INSERT.
+fn insert_form<'s>(alloc: Global, text: &[u8], tokens: &'s [Token]) -> Result<Written<'s>, Refusal>
+    ensures written { AgreesWith (λ x. (x.0, lexemes_of text.now x.1.now)) result
+        (option_or (insert_set_at (lexemes_of text.now tokens.now)) (insert_at (lexemes_of text.now tokens.now))) }
+    ensures shorter { IfOk result (λ x. length x.1.now < length tokens.now) }
+{
+    match insert_set(alloc, text, tokens) {
+        Err(Refusal::SyntaxError) => insert(alloc, tokens),
+        read => read,
+    }
+}
+
+/// A form of INSERT, or of a value.
+fn value_form<'s>(alloc: Global, text: &[u8], tokens: &'s [Token]) -> Result<Written<'s>, Refusal>
+    ensures written { AgreesWith (λ x. (x.0, lexemes_of text.now x.1.now)) result
+        (option_or (insert_set_at (lexemes_of text.now tokens.now)) (option_or (insert_at (lexemes_of text.now tokens.now)) (option_or (count_at (lexemes_of text.now tokens.now)) (introduced_at (lexemes_of text.now tokens.now))))) }
+    ensures shorter { IfOk result (λ x. length x.1.now < length tokens.now) }
+{
+    match insert_form(alloc, text, tokens) {
+        Err(Refusal::SyntaxError) => {}
+        read => return read,
+    }
+    match count(alloc, tokens) {
+        Err(Refusal::SyntaxError) => introduced(alloc, text, tokens),
+        read => read,
+    }
+}
+
 /// A form that begins with an operator or with a statement's first word.
 fn other_form<'s>(alloc: Global, text: &[u8], tokens: &'s [Token]) -> Result<Written<'s>, Refusal>
     ensures written { AgreesWith (λ x. (x.0, lexemes_of text.now x.1.now)) result
-        (option_or (operator_at (lexemes_of text.now tokens.now)) (option_or (work_at (lexemes_of text.now tokens.now)) (insert_at (lexemes_of text.now tokens.now)))) }
+        (option_or (operator_at (lexemes_of text.now tokens.now)) (option_or (work_at (lexemes_of text.now tokens.now))
+        (option_or (insert_set_at (lexemes_of text.now tokens.now)) (option_or (insert_at (lexemes_of text.now tokens.now)) (option_or (count_at (lexemes_of text.now tokens.now)) (introduced_at (lexemes_of text.now tokens.now))))))) }
     ensures shorter { IfOk result (λ x. length x.1.now < length tokens.now) }
 {
     match operator(alloc, text, tokens) {
@@ -268,7 +356,7 @@ fn other_form<'s>(alloc: Global, text: &[u8], tokens: &'s [Token]) -> Result<Wri
         read => return read,
     }
     match work(alloc, tokens) {
-        Err(Refusal::SyntaxError) => insert(alloc, tokens),
+        Err(Refusal::SyntaxError) => value_form(alloc, text, tokens),
         read => read,
     }
 }
@@ -277,7 +365,8 @@ fn other_form<'s>(alloc: Global, text: &[u8], tokens: &'s [Token]) -> Result<Wri
 fn word_form<'s>(alloc: Global, text: &[u8], tokens: &'s [Token]) -> Result<Written<'s>, Refusal>
     ensures written { AgreesWith (λ x. (x.0, lexemes_of text.now x.1.now)) result
         (option_or (star_at (lexemes_of text.now tokens.now)) (option_or (limit_at (lexemes_of text.now tokens.now))
-        (option_or (operator_at (lexemes_of text.now tokens.now)) (option_or (work_at (lexemes_of text.now tokens.now)) (insert_at (lexemes_of text.now tokens.now)))))) }
+        (option_or (operator_at (lexemes_of text.now tokens.now)) (option_or (work_at (lexemes_of text.now tokens.now))
+        (option_or (insert_set_at (lexemes_of text.now tokens.now)) (option_or (insert_at (lexemes_of text.now tokens.now)) (option_or (count_at (lexemes_of text.now tokens.now)) (introduced_at (lexemes_of text.now tokens.now))))))))) }
     ensures shorter { IfOk result (λ x. length x.1.now < length tokens.now) }
 {
     match star(alloc, text, tokens) {

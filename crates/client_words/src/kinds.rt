@@ -11,6 +11,10 @@ pub const BETWEEN: TokenKind = TokenKind::Word(Some(Keyword::Between));
 
 pub const COMMIT: TokenKind = TokenKind::Word(Some(Keyword::Commit));
 
+pub const COUNT: TokenKind = TokenKind::Word(Some(Keyword::Count));
+
+pub const DISTINCT: TokenKind = TokenKind::Word(Some(Keyword::Distinct));
+
 pub const INNER: TokenKind = TokenKind::Word(Some(Keyword::Inner));
 
 pub const INSERT: TokenKind = TokenKind::Word(Some(Keyword::Insert));
@@ -48,6 +52,8 @@ pub const UPDATE: TokenKind = TokenKind::Word(Some(Keyword::Update));
 pub const WHERE: TokenKind = TokenKind::Word(Some(Keyword::Where));
 
 pub const COMMA: TokenKind = TokenKind::Sign(Sign::Comma);
+
+pub const EQUAL: TokenKind = TokenKind::Sign(Sign::Equal);
 
 pub const DOT: TokenKind = TokenKind::Sign(Sign::Dot);
 

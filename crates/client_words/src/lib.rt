@@ -2,7 +2,9 @@
 #![tactic(auto)]
 
 mod aliases;
+mod distinct;
 mod forms;
+mod insert_set;
 mod kinds;
 mod operands;
 mod reserved;

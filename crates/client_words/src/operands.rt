@@ -16,7 +16,7 @@ use vt_value::{Items, Refusal};
 pub type Written<'s> = (Items<u8>, &'s [Token]);
 
 /// One token.
-fn one(alloc: Global, text: &[u8], first: &Token) -> Result<Items<u8>, AllocError>
+pub fn one(alloc: Global, text: &[u8], first: &Token) -> Result<Items<u8>, AllocError>
     ensures { IfOk result (λ written. written ≡ spelled (lexeme_of text.now first.now ∷ [])) }
 {
     let mut out = Vec::new(alloc);

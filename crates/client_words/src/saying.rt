@@ -1,11 +1,11 @@
 //! What a client says as a text of the grammar.
 ghost use Rattle.std.specs.Prelude.{◌≡◌, ◌<◌, ◌≤◌, ℕ, List, IfOk, IfSome, Option, [], Some, length};
 ghost use Rattle.client_statements.specs.tokens.Pieces.{lexemes_of};
-ghost use Rattle.client_words.specs.Forms.{table_of};
-ghost use Rattle.client_words.specs.Sayings.{Becomes, IsSaidAs};
+ghost use Rattle.client_words.specs.Sayings.{Becomes, IsWhole, IsSaidAs};
 ghost use Rattle.client_words.specs.inner.Written.{IsPut};
 
 use crate::aliases::unaliased;
+use crate::distinct::{parts_of, put_groups};
 use crate::forms::form;
 use crate::spelling::{put, put_word};
 use crate::tables::table_of;
@@ -66,10 +66,17 @@ fn rewritten(
 
 /// The text that tokens become.
 fn said_text(alloc: Global, text: &[u8], tokens: &[Token]) -> Result<Items<u8>, AllocError>
-    ensures { IfOk result (λ whole. Becomes (table_of (lexemes_of text.now tokens.now)) (lexemes_of text.now tokens.now) whole) }
+    ensures { IfOk result (λ whole. IsWhole (lexemes_of text.now tokens.now) whole) }
 {
     let table = table_of(alloc, text, tokens)?;
-    rewritten(alloc, text, &table, tokens)
+    let parts = parts_of(alloc, tokens)?;
+    let front = rewritten(alloc, text, &table, parts.front.as_slice())?;
+    let tail = rewritten(alloc, text, &table, parts.tail)?;
+    let mut out = Vec::new(alloc);
+    put(&mut out, front.as_slice())?;
+    put_groups(alloc, &mut out, text, parts.groups.as_slice())?;
+    put(&mut out, tail.as_slice())?;
+    Ok(Items::from_vec(out))
 }
 
 // Promise: What a client says in other words is written as the text of the grammar that means the same

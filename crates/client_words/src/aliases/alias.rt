@@ -2,9 +2,9 @@
 ghost use Rattle.std.specs.Prelude.{◌≡◌, ◌++◌, [], ◌∷◌, ℕ, List, IfOk, OnOk, is_some};
 ghost use Rattle.client_statements.specs.tokens.Pieces.{lexeme_of, lexemes_of};
 ghost use Rattle.client_words.specs.Aliases.{alias_of, column_alias_of, leads_dot};
-ghost use Rattle.client_words.specs.Marks.{is_from, is_as, is_comma, is_close, is_dot, is_order};
+ghost use Rattle.client_words.specs.Marks.{is_from, is_as, is_comma, is_close, is_dot, is_order, is_equal, is_semicolon};
 
-use crate::kinds::{AS, CLOSE, COMMA, DOT, FROM, ORDER};
+use crate::kinds::{AS, CLOSE, COMMA, DOT, EQUAL, FROM, ORDER, SEMICOLON};
 use crate::reserved::is_reserved;
 use client_statements::tokens::{Token, TokenKind, bytes_of, said};
 use sql_tree::Name;
@@ -124,6 +124,26 @@ pub fn is_order(token: &Token) -> bool
     match token.kind {
         ORDER => true,
         _ => false
+    }
+}
+
+#[tactic(auto, unfolding(crate::specs::Marks::is_equal))]
+pub fn is_equal(token: &Token) -> bool
+    ensures { (text : List ℕ) → result ≡ is_equal (lexeme_of text token.now) }
+{
+    match token.kind {
+        EQUAL => true,
+        _ => false,
+    }
+}
+
+#[tactic(auto, unfolding(crate::specs::Marks::is_semicolon))]
+pub fn is_semicolon(token: &Token) -> bool
+    ensures { (text : List ℕ) → result ≡ is_semicolon (lexeme_of text token.now) }
+{
+    match token.kind {
+        SEMICOLON => true,
+        _ => false,
     }
 }
 
