@@ -6,11 +6,13 @@ use Rattle.std.proofs.lemmas.List.{append-nil, length-map}
 use Rattle.client_statements.specs.declared.tokens.token.Token.{Token}
 use Rattle.client_statements.specs.tokens.Pieces.{lexeme_of, lexemes_of}
 use Rattle.client_statements.specs.tokens.Tokens.{HasTokens}
+use Rattle.vschema.specs.declared.schema.VSchema.{VSchema}
 use Rattle.client_words.specs.declared.saying.Said.{Said}
 use Rattle.client_words.specs.Spelling.{Lexemes, spelled}
 use Rattle.client_words.specs.Aliases.{Names, unaliased}
 use Rattle.client_words.specs.Distinct.{Parts, parts_of, group_text}
 use Rattle.client_words.specs.Forms.{table_of, form_at}
+use Rattle.client_words.specs.Numbers.{with_numbers}
 use Rattle.client_words.specs.Sayings.{Becomes, IsWhole, IsSaidAs}
 use Rattle.client_words.specs.Sayings as s
 use Rattle.client_words.specs.inner.Written.{IsPut}
@@ -58,25 +60,25 @@ whole_said ts x table front tail out parts named becomes becomes_tail is =
     (sym (is ∙ append_assoc front (group_text x.groups) tail ∙ ap (λ (p : Parts). front ++ group_text p.groups ++ tail) parts))
     (s.whole first second)
 
-pub one_said : (text a b : List ℕ) (names others : Names) → ((ts us : List Token) → HasTokens text ts → HasTokens text us → ts ≡ us)
-    → IsSaidAs text a names → IsSaidAs text b others → (a ≡ b) × (names ≡ others)
-one_said text a b _ _ one (s.said {tokens = ts} has whole) (s.said {tokens = us} has_too whole_too) =
-    let first = unaliased (lexemes_of text ts) in
-    let second = unaliased (lexemes_of text us) in
-    let plain : first ≡ second = ap (λ (x : List Token). unaliased (lexemes_of text x)) (one ts us has has_too) in
+pub one_said : (schema : VSchema) (text a b : List ℕ) (names others : Names) → ((ts us : List Token) → HasTokens text ts → HasTokens text us → ts ≡ us)
+    → IsSaidAs schema text a names → IsSaidAs schema text b others → (a ≡ b) × (names ≡ others)
+one_said schema text a b _ _ one (s.said {tokens = ts} has whole) (s.said {tokens = us} has_too whole_too) =
+    let first = unaliased (lexemes_of text (with_numbers schema text ts)) in
+    let second = unaliased (lexemes_of text (with_numbers schema text us)) in
+    let plain : first ≡ second = ap (λ (x : List Token). unaliased (lexemes_of text (with_numbers schema text x))) (one ts us has has_too) in
     (one_whole first.0 second.0 a b (ap (λ (x : Lexemes × Names). x.0) plain) whole whole_too, ap (λ (x : Lexemes × Names). x.1) plain)
 
-pub found_said : (text whole : List ℕ) (tokens : List Token) (plain : Lexemes) (names : Names) → HasTokens text tokens
-    → (plain, names) ≡ unaliased (lexemes_of text tokens) → IsWhole plain whole → IsSaidAs text whole names
-found_said text whole tokens plain names has is becomes =
-    let query = unaliased (lexemes_of text tokens) in
+pub found_said : (schema : VSchema) (text whole : List ℕ) (tokens : List Token) (plain : Lexemes) (names : Names) → HasTokens text tokens
+    → (plain, names) ≡ unaliased (lexemes_of text (with_numbers schema text tokens)) → IsWhole plain whole → IsSaidAs schema text whole names
+found_said schema text whole tokens plain names has is becomes =
+    let query = unaliased (lexemes_of text (with_numbers schema text tokens)) in
     let same : plain ≡ query.0 = ap (λ (x : Lexemes × Names). x.0) is in
     let named : names ≡ query.1 = ap (λ (x : Lexemes × Names). x.1) is in
-    subst (IsSaidAs text whole) (sym named) (s.said has (subst (λ (ts : Lexemes). IsWhole ts whole) same becomes))
+    subst (IsSaidAs schema text whole) (sym named) (s.said has (subst (λ (ts : Lexemes). IsWhole ts whole) same becomes))
 
 -- a text that is said in other words has tokens
-pub has_some : (text whole : List ℕ) (names : List (Option (List ℕ))) → IsSaidAs text whole names → (tokens : List Token) × HasTokens text tokens
-has_some text whole _ (s.said {tokens} has becomes) = (tokens, has)
+pub has_some : (schema : VSchema) (text whole : List ℕ) (names : Names) → IsSaidAs schema text whole names → (tokens : List Token) × HasTokens text tokens
+has_some schema text whole _ (s.said {tokens} has becomes) = (tokens, has)
 
 -- ---- the text that was written so far
 

@@ -3,6 +3,7 @@ pub mod Distinct
 pub mod Forms
 pub mod InsertSet
 pub mod Marks
+pub mod Numbers
 pub mod Reserved
 pub mod Sayings
 pub mod Spelling

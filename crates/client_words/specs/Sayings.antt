@@ -3,10 +3,12 @@ use Rattle.std.specs.Prelude.{◌≡◌, ℕ, List, [], ◌∷◌, ◌++◌, Opt
 use Rattle.client_statements.specs.declared.tokens.token.Token.{Token}
 use Rattle.client_statements.specs.tokens.Pieces.{Lexeme, lexemes_of}
 use Rattle.client_statements.specs.tokens.Tokens.{HasTokens}
+use Rattle.vschema.specs.declared.schema.VSchema.{VSchema}
 use Rattle.client_words.specs.Spelling.{Lexemes, spelled}
 use Rattle.client_words.specs.Aliases.{Names, unaliased}
 use Rattle.client_words.specs.Distinct.{parts_of, group_text}
 use Rattle.client_words.specs.Forms.{table_of, form_at}
+use Rattle.client_words.specs.Numbers.{with_numbers}
 
 -- By the table of the statement its tokens become this text: front to back, each form what is written in its place, and each other token as it is spelled
 pub data Becomes (table : Option (List ℕ)) : Lexemes → List ℕ → Type 0 where
@@ -20,7 +22,8 @@ pub data IsWhole (tokens : Lexemes) : List ℕ → Type 0 where
   whole : {front tail : List ℕ} → Becomes (table_of tokens) (parts_of tokens).front front → Becomes (table_of tokens) (parts_of tokens).tail tail
       → IsWhole tokens (front ++ group_text (parts_of tokens).groups ++ tail)
 
--- What a client says is this text, and gives its columns these names, in order. Its tokens, without comments and aliases, become it.
-pub data IsSaidAs : List ℕ → List ℕ → Names → Type 0 where
+-- What a client says is this text, and gives its columns these names, in order. Its tokens, without
+-- comments, aliases and quotes round numbers, become it.
+pub data IsSaidAs (schema : VSchema) : List ℕ → List ℕ → Names → Type 0 where
   said : {text whole : List ℕ} {tokens : List Token} → HasTokens text tokens
-      → IsWhole (unaliased (lexemes_of text tokens)).0 whole → IsSaidAs text whole (unaliased (lexemes_of text tokens)).1
+      → IsWhole (unaliased (lexemes_of text (with_numbers schema text tokens))).0 whole → IsSaidAs schema text whole (unaliased (lexemes_of text (with_numbers schema text tokens))).1

@@ -15,6 +15,8 @@ pub const COUNT: TokenKind = TokenKind::Word(Some(Keyword::Count));
 
 pub const DISTINCT: TokenKind = TokenKind::Word(Some(Keyword::Distinct));
 
+pub const IN: TokenKind = TokenKind::Word(Some(Keyword::In));
+
 pub const INNER: TokenKind = TokenKind::Word(Some(Keyword::Inner));
 
 pub const INSERT: TokenKind = TokenKind::Word(Some(Keyword::Insert));
@@ -32,6 +34,8 @@ pub const NULL: TokenKind = TokenKind::Word(Some(Keyword::Null));
 pub const ROLLBACK: TokenKind = TokenKind::Word(Some(Keyword::Rollback));
 
 pub const VALUE: TokenKind = TokenKind::Word(Some(Keyword::Value));
+
+pub const VALUES: TokenKind = TokenKind::Word(Some(Keyword::Values));
 
 pub const WORK: TokenKind = TokenKind::Word(Some(Keyword::Work));
 

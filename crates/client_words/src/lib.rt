@@ -2,11 +2,14 @@
 #![tactic(auto)]
 
 mod aliases;
+mod columns;
 mod distinct;
 mod forms;
 mod insert_set;
 mod kinds;
+mod numbers;
 mod operands;
+mod places;
 mod reserved;
 mod saying;
 mod spelling;

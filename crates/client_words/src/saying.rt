@@ -1,17 +1,20 @@
 //! What a client says as a text of the grammar.
 ghost use Rattle.std.specs.Prelude.{◌≡◌, ◌<◌, ◌≤◌, ℕ, List, IfOk, IfSome, Option, [], Some, length};
 ghost use Rattle.client_statements.specs.tokens.Pieces.{lexemes_of};
+ghost use Rattle.vschema.specs.declared.schema.VSchema.{VSchema};
 ghost use Rattle.client_words.specs.Sayings.{Becomes, IsWhole, IsSaidAs};
 ghost use Rattle.client_words.specs.inner.Written.{IsPut};
 
 use crate::aliases::unaliased;
 use crate::distinct::{parts_of, put_groups};
 use crate::forms::form;
+use crate::numbers::with_numbers;
 use crate::spelling::{put, put_word};
 use crate::tables::table_of;
 use client_statements::tokens::{Token, lex, one_lexing};
 use sql_tree::Name;
 use std::alloc::{AllocError, Global};
+use vschema::VSchema;
 use vt_value::{Items, Refusal};
 
 /// What a client says as a text of the grammar.
@@ -82,16 +85,17 @@ fn said_text(alloc: Global, text: &[u8], tokens: &[Token]) -> Result<Items<u8>, 
 // Promise: What a client says in other words is written as the text of the grammar that means the same
 /// The text of the grammar that says what a client says, if that is tokens, blanks and comments. It is for a text that the grammar refuses: what
 /// comes of it may still have no tree.
-pub fn said_as(alloc: Global, text: &[u8]) -> Result<Option<Said>, AllocError>
-    ensures found { IfOk result (λ o. IfSome o (λ said. IsSaidAs text.now said.text said.names)) }
-    ensures only { (whole : List ℕ) (names : List (Option (List ℕ))) → IsSaidAs text.now whole names
+pub fn said_as(alloc: Global, schema: &VSchema, text: &[u8]) -> Result<Option<Said>, AllocError>
+    ensures found { IfOk result (λ o. IfSome o (λ said. IsSaidAs schema.now text.now said.text said.names)) }
+    ensures only { (whole : List ℕ) (names : List (Option (List ℕ))) → IsSaidAs schema.now text.now whole names
         → IfOk result (λ o. o ≡ Some (record { text = whole; names = names })) }
 {
     one_saying();
     let Some(tokens) = lex(alloc, text)? else {
         return Ok(None);
     };
-    let query = unaliased(alloc, text, Items::from_vec(tokens))?;
+    let tokens = with_numbers(alloc, schema, text, tokens.as_slice())?;
+    let query = unaliased(alloc, text, tokens)?;
     let text = said_text(alloc, text, query.tokens.as_slice())?;
     Ok(Some(Said {
         text,
@@ -101,7 +105,7 @@ pub fn said_as(alloc: Global, text: &[u8]) -> Result<Option<Said>, AllocError>
 
 /// A text is said in one way.
 pub fn one_saying()
-    ensures { (text a b : List ℕ) (names others : List (Option (List ℕ))) → IsSaidAs text a names → IsSaidAs text b others → (a ≡ b) × (names ≡ others) }
+    ensures { (schema : VSchema) (text a b : List ℕ) (names others : List (Option (List ℕ))) → IsSaidAs schema text a names → IsSaidAs schema text b others → (a ≡ b) × (names ≡ others) }
 {
     one_lexing();
 }

@@ -100,8 +100,8 @@ module _ (o : Opening) (l : Limits) (handshake : Handshake) where
   text_on : (set then : Settings) (s now : PassAndTransaction) (text : List ℕ) (outcome : Outcome) → GivesText (context_of o handshake) May set s text outcome then now
       → Follows o s.pass now.pass
   text_on set _ s _ text _ (given.run {outcome} {now} runs not_run held unsaid) = run_on set s now text outcome runs
-  text_on set _ s _ text _ (given.said {outcome} {mid} {now} whole names runs none is_said again) =
-      follow_on s.pass mid.pass now.pass (run_on set s mid text (Refused SyntaxError) runs) (run_on set mid now whole outcome again)
+  text_on set _ s _ text _ (given.said {outcome} {refused} {mid} {now} whole names runs not_run none is_said again) =
+      follow_on s.pass mid.pass now.pass (run_on set s mid text refused runs) (run_on set mid now whole outcome again)
   text_on set _ s _ text _ (given.asked {outcome} {reply} {then} {mid} {now} statement runs not_run is_asked answers) =
       follow_on s.pass mid.pass now.pass (run_on set s mid text outcome runs) (client_on set then mid now statement reply answers)
   text_on set _ s _ text _ (given.not_held sets is_asked) = stays o l s.pass
@@ -239,14 +239,14 @@ module _ (o : Opening) (l : Limits) (handshake : Handshake) where
     text_alone x s e set _ text _ _ (given.run {outcome} {now} runs not_run held unsaid) legal others =
         let after = run_alone x s e set text outcome now runs legal others in
         (after.0, after.1, given.run after.2 not_run held unsaid)
-    text_alone x s e set _ text _ _ (given.said {outcome} {mid} {now} whole names runs none is_said again) legal others =
-        let first = run_on set s mid text (Refused SyntaxError) runs in
+    text_alone x s e set _ text _ _ (given.said {outcome} {refused} {mid} {now} whole names runs not_run none is_said again) legal others =
+        let first = run_on set s mid text refused runs in
         let second = run_on set mid now whole outcome again in
-        let database = run_alone x s e set text (Refused SyntaxError) mid runs legal (up_to s.pass now.pass others mid.pass first.later second.later) in
+        let database = run_alone x s e set text refused mid runs legal (up_to s.pass now.pass others mid.pass first.later second.later) in
         let two =
         run_alone database.0 mid database.1 set whole outcome now again (first.legal legal)
         (trailing s.pass now.pass others mid.pass first.later second.later first.session) in
-        (two.0, two.1, given.said whole names database.2 none is_said two.2)
+        (two.0, two.1, given.said whole names database.2 not_run none is_said two.2)
     text_alone x s e set _ text _ _ (given.asked {outcome} {reply} {then} {mid} {now} statement runs not_run is_asked answers) legal others =
         let first = run_on set s mid text outcome runs in
         let second = client_on set then mid now statement reply answers in

@@ -274,8 +274,8 @@ unshown_text : (o : Opening) (l : Limits) (handshake : Handshake) (set then : Se
     → GivesText (context_of o handshake) (Means o l) set s text (Refused OutOfMemory) then now
 unshown_text o l handshake set _ s _ text _ (g.run {outcome} {now} runs not_run held unsaid) rows =
     g.run (unshown_run o l handshake set s now text outcome runs rows) (λ e statement is_asked. cc) held (λ e whole names is_said. cc)
-unshown_text o l handshake set _ s _ text _ (g.said {outcome} {mid} {now} whole names runs none is_said again) rows =
-    g.said {outcome = Refused OutOfMemory} whole names runs none is_said
+unshown_text o l handshake set _ s _ text _ (g.said {outcome} {refused} {mid} {now} whole names runs not_run none is_said again) rows =
+    g.said {outcome = Refused OutOfMemory} whole names runs not_run none is_said
     (unshown_run o l handshake set mid now whole outcome again (rows_unnamed names outcome rows))
 unshown_text o l handshake set _ s _ text _ (g.asked {reply} {then} {mid} {now} statement runs not_run is_asked answers) rows =
     g.asked statement runs not_run is_asked (unshown_client o l handshake set then mid now statement reply answers rows)

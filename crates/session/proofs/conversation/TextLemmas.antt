@@ -22,7 +22,7 @@ use Rattle.session.specs.conversation.GivesText.{opens_one, OpensOne, RunsText, 
 use Rattle.session.specs.conversation.GivesText as g
 use Rattle.session.specs.conversation.inner.Means.{AnswersAsked, opens_read}
 use Rattle.session.specs.conversation.inner.Means as inner
-use Rattle.session.specs.conversation.inner.Tellings.{turns_on, is_syntax_error}
+use Rattle.session.specs.conversation.inner.Tellings.{turns_on}
 use Rattle.session.proofs.conversation.RepliesLemmas.{kept_status}
 
 -- ---- whether a transaction is open
@@ -76,15 +76,6 @@ turning set (Set (Some false)) is = cc
 turning set (Set None) is = cc
 turning set _ is = cc
 
--- a refusal that says that a text has no tree
-pub syntax_error : (why : Refusal) → is_syntax_error why ≡ true → Refused why ≡ Refused refused.SyntaxError
-syntax_error refused.SyntaxError is = refl
-syntax_error _ is = absurd (cc)
-
-pub other_refusal : (why : Refusal) → is_syntax_error why ≡ false → Refused why ≡ Refused refused.SyntaxError → ⊥
-other_refusal refused.SyntaxError is same = cc
-other_refusal _ is same = cc
-
 -- a text that was refused and isn't run
 pub refused_is : (found : Option Refusal) (outcome : Outcome) (why : Refusal) → found ≡ Some why → IsNone found ↔ (is_not_run outcome ≡ false) → is_not_run outcome ≡ true
 refused_is found outcome why is tells = by (is_not_run outcome) refl
@@ -100,9 +91,9 @@ module _ {S : Type 0} (context : SessionContext S) (May : S → List ℕ → Out
   given_asked s mid _ text outcome why _ _ runs not_run is (inner.asked statement is_asked answers) = g.asked statement runs not_run is_asked answers
   given_asked s mid _ text outcome why _ _ runs not_run is (inner.nothing none unsaid) =
       g.run (subst (λ (x : Outcome). RunsText context May set s text x mid) is runs) (λ e statement is_asked. none statement is_asked)
-      (λ sets is_asked. none NotSupported is_asked) unsaid
-  given_asked s mid _ text outcome why _ _ runs not_run is (inner.said {reply} {now} whole names no_tree none is_said again) =
-      g.said whole names (subst (λ (x : Outcome). RunsText context May set s text x mid) (is ∙ no_tree) runs) none is_said again
+      (λ sets is_asked. none NotSupported is_asked) (λ e. unsaid)
+  given_asked s mid _ text outcome why _ _ runs not_run is (inner.said {reply} {now} whole names none is_said again) =
+      g.said whole names runs not_run none is_said again
   given_asked s mid _ text outcome why _ _ runs not_run is inner.unread = g.unread runs not_run
 
   -- a text that is refused before it is run

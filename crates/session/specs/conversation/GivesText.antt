@@ -134,16 +134,16 @@ module _ {S : Type 0} (context : SessionContext S) (May : S → List ℕ → Out
     not_read : NeedsOne context set s → RunsText s text (Refused r.OutOfMemory) s
 
   -- What a text gives, what holds for commands then, and what the session has then seen. A text that isn't run and asks something of the
-  -- server is answered that. A SET of what the server can't be set to is refused, also if it has a tree. One that has no tree and asks nothing gives what
+  -- server is answered that. A SET of what the server can't be set to is refused, also if it has a tree. One that isn't run and asks nothing gives what
   -- its other words do, under the names that it gives columns. If there is no memory to read what it asks or says, that is told.
   pub data GivesText (s : S) (text : List ℕ) : Outcome → Settings → S → Type 0 where
     run : {outcome : Outcome} {now : S} → RunsText s text outcome now → (is_not_run outcome ≡ true → (statement : ClientStatement) → Asks text statement → ⊥)
-        → (IsSet text → Asks text NotSupported → ⊥) → (outcome ≡ Refused r.SyntaxError → (whole : List ℕ) (names : List (Option (List ℕ))) → IsSaidAs text whole names → ⊥)
+        → (IsSet text → Asks text NotSupported → ⊥) → (is_not_run outcome ≡ true → (whole : List ℕ) (names : List (Option (List ℕ))) → IsSaidAs context.schema text whole names → ⊥)
         → GivesText s text outcome set now
     asked : {outcome reply : Outcome} {then : Settings} {mid now : S} (statement : ClientStatement) → RunsText s text outcome mid → is_not_run outcome ≡ true
         → Asks text statement → AnswersClient mid statement reply then now → GivesText s text reply then now
-    said : {outcome : Outcome} {mid now : S} (whole : List ℕ) (names : List (Option (List ℕ))) → RunsText s text (Refused r.SyntaxError) mid
-        → ((statement : ClientStatement) → Asks text statement → ⊥) → IsSaidAs text whole names → RunsText mid whole outcome now
+    said : {outcome refused : Outcome} {mid now : S} (whole : List ℕ) (names : List (Option (List ℕ))) → RunsText s text refused mid
+        → is_not_run refused ≡ true → ((statement : ClientStatement) → Asks text statement → ⊥) → IsSaidAs context.schema text whole names → RunsText mid whole outcome now
         → GivesText s text (named_outcome names outcome) set now
     not_held : IsSet text → Asks text NotSupported → GivesText s text (Refused r.NotSupported) set s
     not_looked : GivesText s text (Refused r.OutOfMemory) set s

@@ -8,7 +8,7 @@ ghost use Rattle.client_statements.specs.Answers.{has_client_answer, IsClientAns
 ghost use Rattle.client_statements.specs.Asks.{Asks, IsSet};
 ghost use Rattle.session.specs.declared.conversation.access.Handshake.{Handshake};
 ghost use Rattle.session.specs.conversation.GivesText.{DefinesText, AllTexts, facts_of, TellsAnswer, TellsClient, is_not_run};
-ghost use Rattle.session.specs.conversation.inner.Tellings.{turns_on, refusal_of, is_syntax_error, leads_set};
+ghost use Rattle.session.specs.conversation.inner.Tellings.{turns_on, refusal_of, leads_set};
 
 use crate::conversation::access::Handshake;
 use crate::conversation::client_reply::{ClientReply, ClientReplyKind, ShownSet};
@@ -34,16 +34,6 @@ pub fn not_run(outcome: &ClientReply) -> Option<Refusal>
         ClientReplyKind::Refused(Refusal::SyntaxError) => Some(Refusal::SyntaxError),
         ClientReplyKind::Refused(Refusal::NotSupported) => Some(Refusal::NotSupported),
         _ => None,
-    }
-}
-
-/// Whether a text was refused since it has no tree.
-pub fn is_syntax_error(why: Refusal) -> bool
-    ensures { result ≡ is_syntax_error why }
-{
-    match why {
-        Refusal::SyntaxError => true,
-        _ => false,
     }
 }
 

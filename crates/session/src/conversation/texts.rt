@@ -17,7 +17,7 @@ ghost use Rattle.session.specs.conversation.inner.Tellings.{turns_on};
 use crate::conversation::client_reply::{ClientReply, ClientReplyKind, ShownSet};
 use crate::conversation::columns::columns_of;
 use crate::conversation::connection_state::Settings;
-use crate::conversation::local_answers::{done, is_syntax_error, local_answer, refused, turns_on};
+use crate::conversation::local_answers::{done, local_answer, refused, turns_on};
 use crate::conversation::named_columns::named;
 use crate::conversation::responder::Responder;
 use client_statements::{ClientStatement, read};
@@ -320,7 +320,7 @@ impl<
         named(self.alloc, outcome, said.names.as_slice())
     }
 
-    /// What a text gives that asks nothing of the server: if it has no tree, by other words. If it has none either, it is refused for why it wasn't run.
+    /// What a text gives that isn't run and asks nothing of the server: what its other words do. If it has none, it is refused for why it wasn't run.
     fn answer_said(
         &self,
         pass: &mut ShardPass<W, J>,
@@ -336,10 +336,7 @@ impl<
         ensures tx { IsOf W.opening tx.new pass.new }
         ensures session { pass.new.session ≡ pass.old.session }
     {
-        if !is_syntax_error(why) {
-            return (refused(why), settings);
-        }
-        match said_as(self.alloc, text) {
+        match said_as(self.alloc, self.engine.schema(), text) {
             Ok(Some(said)) => {
                 let outcome = self.run_said(pass, tx, settings, &said);
                 drop(said);

@@ -41,10 +41,10 @@ pub data AnswersAsked {S : Type 0} (context : SessionContext S) (May : S → Lis
   asked : {reply : Outcome} {then : Settings} {now : S} (statement : ClientStatement) → Asks text statement → AnswersClient context May set s statement reply then now
       → AnswersAsked context May set s text outcome reply then now
   nothing : ((statement : ClientStatement) → Asks text statement → ⊥)
-      → (outcome ≡ Refused SyntaxError → (whole : List ℕ) (names : List (Option (List ℕ))) → IsSaidAs text whole names → ⊥)
+      → ((whole : List ℕ) (names : List (Option (List ℕ))) → IsSaidAs context.schema text whole names → ⊥)
       → AnswersAsked context May set s text outcome outcome set s
-  said : {reply : Outcome} {now : S} (whole : List ℕ) (names : List (Option (List ℕ))) → outcome ≡ Refused SyntaxError
-      → ((statement : ClientStatement) → Asks text statement → ⊥) → IsSaidAs text whole names → RunsText context May set s whole reply now
+  said : {reply : Outcome} {now : S} (whole : List ℕ) (names : List (Option (List ℕ)))
+      → ((statement : ClientStatement) → Asks text statement → ⊥) → IsSaidAs context.schema text whole names → RunsText context May set s whole reply now
       → AnswersAsked context May set s text outcome (named_outcome names reply) set now
   unread : AnswersAsked context May set s text outcome (Refused OutOfMemory) set s
 

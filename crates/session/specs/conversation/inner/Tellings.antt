@@ -38,7 +38,3 @@ is_set_kind _ = false
 abbrev pub leads_set : List Token → Bool
 leads_set [] = false
 leads_set (t ∷ ts) = is_set_kind t.kind
-
-abbrev pub is_syntax_error : Refusal → Bool
-is_syntax_error r.SyntaxError = true
-is_syntax_error _ = false
