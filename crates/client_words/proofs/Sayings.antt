@@ -9,11 +9,10 @@ use Rattle.client_statements.specs.tokens.Tokens.{HasTokens}
 use Rattle.vschema.specs.declared.schema.VSchema.{VSchema}
 use Rattle.client_words.specs.declared.saying.Said.{Said}
 use Rattle.client_words.specs.Spelling.{Lexemes, spelled}
-use Rattle.client_words.specs.Aliases.{Names, unaliased}
+use Rattle.client_words.specs.Aliases.{Names}
 use Rattle.client_words.specs.Distinct.{Parts, parts_of, group_text}
 use Rattle.client_words.specs.Forms.{table_of, form_at}
-use Rattle.client_words.specs.Numbers.{with_numbers}
-use Rattle.client_words.specs.Sayings.{Becomes, IsWhole, IsSaidAs}
+use Rattle.client_words.specs.Sayings.{Becomes, IsWhole, plain_of, IsSaidAs}
 use Rattle.client_words.specs.Sayings as s
 use Rattle.client_words.specs.inner.Written.{IsPut}
 
@@ -50,6 +49,9 @@ one_whole ts us _ _ same (s.whole {front = f1} {tail = t1} front tail) (s.whole 
     let groups : group_text (parts_of ts).groups ≡ group_text (parts_of us).groups = ap (λ (x : Lexemes). group_text (parts_of x).groups) same in
     rw (fronts, tails, groups) refl
 
+pub put_all : (a b c d e front group tail : List ℕ) → a ≡ [] → b ≡ a ++ front → c ≡ b ++ group → d ≡ c ++ tail → e ≡ d → e ≡ (front ++ group) ++ tail
+put_all a b c d e front group tail is_a is_b is_c is_d is_e = rw (is_e, is_d, is_c, is_b, is_a) refl
+
 -- a text of its parts
 pub whole_said : (ts : Lexemes) (x : Parts) (table : Option (List ℕ)) (front tail out : List ℕ) → x ≡ parts_of ts → table ≡ table_of ts → Becomes table x.front front
     → Becomes table x.tail tail → out ≡ (front ++ group_text x.groups) ++ tail → IsWhole ts out
@@ -57,21 +59,21 @@ whole_said ts x table front tail out parts named becomes becomes_tail is =
     let first = subst (λ (t : Option (List ℕ)). Becomes t (parts_of ts).front front) named (subst (λ (p : Parts). Becomes table p.front front) parts becomes) in
     let second = subst (λ (t : Option (List ℕ)). Becomes t (parts_of ts).tail tail) named (subst (λ (p : Parts). Becomes table p.tail tail) parts becomes_tail) in
     subst (IsWhole ts)
-    (sym (is ∙ append_assoc front (group_text x.groups) tail ∙ ap (λ (p : Parts). front ++ group_text p.groups ++ tail) parts))
+    (sym (is ∙ ap (λ (p : Parts). (front ++ group_text p.groups) ++ tail) parts))
     (s.whole first second)
 
 pub one_said : (schema : VSchema) (text a b : List ℕ) (names others : Names) → ((ts us : List Token) → HasTokens text ts → HasTokens text us → ts ≡ us)
     → IsSaidAs schema text a names → IsSaidAs schema text b others → (a ≡ b) × (names ≡ others)
 one_said schema text a b _ _ one (s.said {tokens = ts} has whole) (s.said {tokens = us} has_too whole_too) =
-    let first = unaliased (lexemes_of text (with_numbers schema text ts)) in
-    let second = unaliased (lexemes_of text (with_numbers schema text us)) in
-    let plain : first ≡ second = ap (λ (x : List Token). unaliased (lexemes_of text (with_numbers schema text x))) (one ts us has has_too) in
+    let first = plain_of schema text ts in
+    let second = plain_of schema text us in
+    let plain : first ≡ second = ap (λ (x : List Token). plain_of schema text x) (one ts us has has_too) in
     (one_whole first.0 second.0 a b (ap (λ (x : Lexemes × Names). x.0) plain) whole whole_too, ap (λ (x : Lexemes × Names). x.1) plain)
 
 pub found_said : (schema : VSchema) (text whole : List ℕ) (tokens : List Token) (plain : Lexemes) (names : Names) → HasTokens text tokens
-    → (plain, names) ≡ unaliased (lexemes_of text (with_numbers schema text tokens)) → IsWhole plain whole → IsSaidAs schema text whole names
+    → (plain, names) ≡ plain_of schema text tokens → IsWhole plain whole → IsSaidAs schema text whole names
 found_said schema text whole tokens plain names has is becomes =
-    let query = unaliased (lexemes_of text (with_numbers schema text tokens)) in
+    let query = plain_of schema text tokens in
     let same : plain ≡ query.0 = ap (λ (x : Lexemes × Names). x.0) is in
     let named : names ≡ query.1 = ap (λ (x : Lexemes × Names). x.1) is in
     subst (IsSaidAs schema text whole) (sym named) (s.said has (subst (λ (ts : Lexemes). IsWhole ts whole) same becomes))

@@ -2,23 +2,20 @@
 -- 'Problems with Column Aliases' of MySQL's reference manual.
 use Rattle.std.specs.Prelude.{ℕ, Bool, true, false, not, ◌&&◌, ◌||◌, List, [], ◌∷◌, ◌++◌, Option, Some, None, is_some, unwrap_or, if◌then◌else◌}
 use Rattle.sql_lexer.specs.inner.Results.{◌>>=◌}
+use Rattle.vschema.specs.declared.schema.VSchema.{VSchema}
 use Rattle.client_statements.specs.tokens.Keywords.{same_in_any_case}
 use Rattle.client_statements.specs.declared.tokens.token.Keyword.TheVariants as k
 use Rattle.client_statements.specs.tokens.Pieces.{Lexeme, bare, named, quoted, mark}
-use Rattle.client_words.specs.Marks.{is_from, is_as, is_comma, is_close, is_dot, is_order}
-use Rattle.client_words.specs.Reserved.{is_reserved}
+use Rattle.client_words.specs.Marks.{is_from, is_as, is_comma, is_close, is_dot, is_order, is_group}
+use Rattle.client_words.specs.Reserved.{alias_of}
 use Rattle.client_words.specs.Spelling.{Lexemes}
+use Rattle.client_words.specs.Distinct.{ends_filter}
 use Rattle.client_words.specs.Forms.{name_of, is_table}
+use Rattle.client_words.specs.Numbers.{Known, known_in, names_known}
 
 -- the names of columns, in order: none where the client gives none
 abbrev pub Names : Type 0
 Names = List (Option (List ℕ))
-
--- what the alias of a table says
-unfoldable pub alias_of : Lexeme → Option (List ℕ)
-alias_of (bare key w) = if is_reserved w then None else Some w
-alias_of (named w) = Some w
-alias_of _ = None
 
 -- what the alias of a column says: it may be a text too
 unfoldable pub column_alias_of : Lexeme → Option (List ℕ)
@@ -201,23 +198,44 @@ unfoldable pub ordered : Names → Lexemes → Lexemes → Lexemes
 ordered names list [] = []
 ordered names list (t ∷ rest) = if is_order t then t ∷ keys names list false rest else t ∷ ordered names list rest
 
+-- ---- GROUP BY
+
+-- what a token of GROUP BY says: a column of the tables, or else an item's columns
+abbrev pub group_key : Known → Names → Lexemes → Bool → Lexeme → Lexemes → Lexemes
+group_key known names list after_dot t rest = if names_known known (name_of t) then t ∷ [] else first_key names list after_dot t rest
+
+abbrev pub group_one : Known → Names → Lexemes → Bool → Bool → Lexeme → Lexemes → Lexemes
+group_one known names list true after_dot t rest = group_key known names list after_dot t rest
+group_one known names list false after_dot t rest = t ∷ []
+
+-- from GROUP on, up to ORDER or LIMIT
+abbrev pub stays_group : Bool → Lexeme → Bool
+stays_group in_group t = is_group t || (in_group && not (ends_filter t))
+
+-- with items in place of the aliases after GROUP
+unfoldable pub grouped : Known → Names → Lexemes → Bool → Bool → Lexemes → Lexemes
+grouped known names list in_group after_dot [] = []
+grouped known names list in_group after_dot (t ∷ rest) =
+    group_one known names list in_group after_dot t rest ++ grouped known names list (stays_group in_group t) (is_dot t) rest
+
 -- ---- the query
 
 -- the query of these tables, whose select list is this and has these names
-abbrev pub query : Lexeme → Tables → Names → Lexemes → Lexemes
-query select x names list = select ∷ renamed x list ++ x.kept ++ ordered names (renamed x list) (renamed x x.rest)
+abbrev pub query : Known → Lexeme → Tables → Names → Lexemes → Lexemes
+query known select x names list =
+    select ∷ renamed x list ++ x.kept ++ ordered names (renamed x list) (grouped known names (renamed x list) false false (renamed x x.rest))
 
 abbrev pub is_sound : Tables → Lexemes → Bool
 is_sound x list = all_exposed x list && all_exposed x x.rest
 
-abbrev pub of_tables : Lexeme → Tables → Lexemes → Option (Lexemes × Names)
-of_tables select x ts = if is_sound x (list_of ts) then Some (query select x (names_from None ts) (list_of ts), names_from None ts) else None
+abbrev pub of_tables : Known → Lexeme → Tables → Lexemes → Option (Lexemes × Names)
+of_tables known select x ts = if is_sound x (list_of ts) then Some (query known select x (names_from None ts) (list_of ts), names_from None ts) else None
 
-unfoldable pub aliased : Lexemes → Option (Lexemes × Names)
-aliased (bare (Some k.Select) w ∷ ts) = tables_at (from_on ts) >>= λ x. of_tables (bare (Some k.Select) w) x ts
-aliased _ = None
+unfoldable pub aliased : Known → Lexemes → Option (Lexemes × Names)
+aliased known (bare (Some k.Select) w ∷ ts) = tables_at (from_on ts) >>= λ x. of_tables known (bare (Some k.Select) w) x ts
+aliased known _ = None
 
 -- A query without aliases, and the names of its columns. What isn't one of one or two tables is left as it is, and so are aliases that are wrong in
 -- MySQL too: then they have no tree.
-unfoldable pub unaliased : Lexemes → Lexemes × Names
-unaliased ts = unwrap_or (aliased ts) (ts, [])
+unfoldable pub unaliased : VSchema → Lexemes → Lexemes × Names
+unaliased schema ts = unwrap_or (aliased (known_in schema ts) ts) (ts, [])

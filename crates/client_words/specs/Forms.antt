@@ -1,6 +1,6 @@
 -- Forms of MySQL that the grammar says in other words: for each what it reads at the front, what is written in its place, and the tokens after it. By
 -- 'SQL Statements' and 'Comparison Functions and Operators' of MySQL's reference manual.
-use Rattle.std.specs.Prelude.{ℕ, Bool, true, false, ◌&&◌, ◌||◌, List, [], ◌∷◌, ◌++◌, codes, bytes_eq, Option, Some, None, if◌then◌else◌}
+use Rattle.std.specs.Prelude.{ℕ, Bool, true, false, ◌&&◌, ◌||◌, List, [], ◌∷◌, ◌++◌, codes, bytes_eq, Option, Some, None, is_some, if◌then◌else◌}
 use Rattle.std.specs.Option.{option_or}
 use Rattle.sql_lexer.specs.inner.Results.{◌>>=◌}
 use Rattle.client_statements.specs.tokens.Keywords.{same_in_any_case}
@@ -9,6 +9,8 @@ use Rattle.client_statements.specs.declared.tokens.token.Sign.TheVariants.{Comma
 use Rattle.client_statements.specs.tokens.Pieces.{Lexeme, bare, named, digits, quoted, operator, mark}
 use Rattle.client_words.specs.Spelling.{Lexemes, Written, spelled}
 use Rattle.client_words.specs.InsertSet.{insert_set_at}
+use Rattle.client_words.specs.Marks.{is_set, without_as}
+use Rattle.client_words.specs.Reserved.{alias_of}
 
 -- what a name says
 abbrev pub name_of : Lexeme → Option (List ℕ)
@@ -16,9 +18,18 @@ name_of (bare key w) = Some w
 name_of (named w) = Some w
 name_of _ = None
 
+abbrev pub leads_set : Lexemes → Bool
+leads_set [] = false
+leads_set (t ∷ rest) = is_set t
+
+-- the alias of the one table before SET, or its own name
+abbrev pub alias_before_set : Lexemes → Option (List ℕ)
+alias_before_set [] = None
+alias_before_set (u ∷ rest) = if leads_set rest then alias_of u else None
+
 unfoldable pub before_set : Lexemes → Option (List ℕ)
-before_set (t ∷ bare (Some k.Set) w ∷ rest) = name_of t
-before_set _ = None
+before_set [] = None
+before_set (t ∷ rest) = if leads_set rest then name_of t else alias_before_set (without_as rest)
 
 unfoldable pub before_where : Lexemes → Option (List ℕ)
 before_where (t ∷ bare (Some k.Where) w ∷ rest) = name_of t
@@ -64,6 +75,21 @@ unfoldable pub after_dot : Lexeme → Lexemes → Written
 after_dot table (bare key w ∷ rest) = Some (spelled (table ∷ mark Dot ∷ bare key w ∷ []), rest)
 after_dot table (named w ∷ rest) = Some (spelled (table ∷ mark Dot ∷ named w ∷ []), rest)
 after_dot table _ = None
+
+-- UPDATE table [AS] alias SET, without the alias
+abbrev pub update_text : Lexeme → List ℕ
+update_text table = codes " UPDATE" ++ spelled (table ∷ []) ++ codes " SET"
+
+abbrev pub if_aliased : Lexeme → Lexeme → Lexemes → Written
+if_aliased table u rest = if is_some (alias_of table) && is_some (alias_of u) then Some (update_text table, rest) else None
+
+unfoldable pub aliased_set_at : Lexeme → Lexemes → Written
+aliased_set_at table (u ∷ bare (Some k.Set) w ∷ rest) = if_aliased table u rest
+aliased_set_at table _ = None
+
+unfoldable pub update_at : Lexemes → Written
+update_at (bare (Some k.Update) w ∷ t ∷ rest) = aliased_set_at t (without_as rest)
+update_at _ = None
 
 -- operand = name | name . name | number | - number | text
 unfoldable pub operand_at : Lexemes → Written
@@ -149,5 +175,5 @@ introduced_at _ = None
 unfoldable pub form_at : Option (List ℕ) → Lexemes → Written
 form_at table ts =
     option_or (between_at table ts) (option_or (qualifier_at table ts) (option_or (star_at ts)
-    (option_or (limit_at ts) (option_or (operator_at ts) (option_or (work_at ts) (option_or (insert_set_at ts)
-    (option_or (insert_at ts) (option_or (count_at ts) (introduced_at ts)))))))))
+    (option_or (limit_at ts) (option_or (operator_at ts) (option_or (work_at ts) (option_or (update_at ts) (option_or (insert_set_at ts)
+    (option_or (insert_at ts) (option_or (count_at ts) (introduced_at ts))))))))))

@@ -3,7 +3,7 @@ use Rattle.std.specs.Prelude.{ℕ, Bool, true, false, ◌||◌, List, [], ◌∷
 use Rattle.client_statements.specs.declared.tokens.token.Keyword.TheVariants as k
 use Rattle.client_statements.specs.tokens.Pieces.{Lexeme, bare}
 use Rattle.client_words.specs.Spelling.{Lexemes, Written, spelled}
-use Rattle.client_words.specs.Marks.{is_comma, is_equal, is_semicolon}
+use Rattle.client_words.specs.Marks.{is_comma, is_equal, is_semicolon, without_into}
 
 -- the columns of assignments, with the commas between them; of one whose sign is behind, none
 unfoldable pub columns_in : Bool → Lexemes → Lexemes
@@ -32,8 +32,11 @@ row_text table sets =
     codes " INSERT INTO" ++ spelled (table ∷ []) ++ codes " (" ++ spelled (columns_in false sets) ++ codes " ) VALUES ("
     ++ spelled (values_in false sets) ++ codes " )"
 
+unfoldable pub row_at : Lexemes → Written
+row_at (t ∷ bare (Some k.Set) w ∷ rest) = Some (row_text t rest, after_sets rest)
+row_at _ = None
+
 -- INSERT [INTO] table SET column = value,..
 unfoldable pub insert_set_at : Lexemes → Written
-insert_set_at (bare (Some k.Insert) w ∷ bare (Some k.Into) v ∷ t ∷ bare (Some k.Set) u ∷ rest) = Some (row_text t rest, after_sets rest)
-insert_set_at (bare (Some k.Insert) w ∷ t ∷ bare (Some k.Set) u ∷ rest) = Some (row_text t rest, after_sets rest)
+insert_set_at (bare (Some k.Insert) w ∷ rest) = row_at (without_into rest)
 insert_set_at _ = None

@@ -1,11 +1,14 @@
 -- Numbers in quotes. A text that is compared with a number, or stored as one, is converted: 'Type Conversion in Expression Evaluation' of MySQL's
 -- reference manual. Here it is one if plain decimals stand between its quotes, and its column holds numbers.
-use Rattle.std.specs.Prelude.{ℕ, Bool, true, false, not, ◌&&◌, ◌||◌, ◌+◌, ◌-◌, ◌==◌, List, [], ◌∷◌, ◌++◌, drop, map, bytes_eq, nat_lt, slice_range, Option, Some, None, if◌then◌else◌}
+use Rattle.std.specs.Prelude.{ℕ, Bool, true, false, not, ◌&&◌, ◌||◌, ◌+◌, ◌-◌, ◌==◌, List, [], ◌∷◌, ◌++◌, drop, map, bytes_eq, length, nat_eq, nat_lt, slice_range, Option, Some, None, if◌then◌else◌}
 use Rattle.std.specs.List.{list_any, list_all, find}
 use Rattle.sql_lexer.specs.Lexemes.{is_digit}
 use Rattle.vschema.specs.Checks.{is_text_type}
+use Rattle.vschema.specs.Column as v
+use Rattle.vschema.specs.ColumnType.{ColumnType}
 use Rattle.vschema.specs.declared.schema.Table.{Table}
 use Rattle.vschema.specs.declared.schema.VSchema.{VSchema}
+use Rattle.client_statements.specs.tokens.Keywords.{same_in_any_case}
 use Rattle.client_statements.specs.declared.tokens.token.Keyword.TheVariants as k
 use Rattle.client_statements.specs.declared.tokens.token.Sign.TheVariants.{Equal, LeftParenthesis, Minus}
 use Rattle.client_statements.specs.declared.tokens.token.Token.{Token}
@@ -21,9 +24,8 @@ use Rattle.client_words.specs.declared.places.Place.TheVariants.{Other, Column, 
 -- ---- what is a number
 
 -- one or more digits
-unfoldable pub are_digits : List ℕ → Bool
-are_digits [] = false
-are_digits (b ∷ bytes) = list_all is_digit (b ∷ bytes)
+abbrev pub are_digits : List ℕ → Bool
+are_digits bytes = not (nat_eq (length bytes) 0) && list_all is_digit bytes
 
 unfoldable pub is_text : TokenKind → Bool
 is_text Text = true
@@ -70,9 +72,12 @@ unfoldable pub table_on : Lexemes → Lexemes
 table_on [] = []
 table_on (t ∷ rest) = if leads_table t then rest else table_on rest
 
+abbrev pub is_named : List ℕ → Table → Bool
+is_named name t = bytes_eq t.name name
+
 abbrev pub table_named : VSchema → Option (List ℕ) → Option Table
 table_named schema None = None
-table_named schema (Some name) = find (λ t. bytes_eq t.name name) schema.tables
+table_named schema (Some name) = find (is_named name) schema.tables
 
 abbrev pub first_name : Lexemes → Option (List ℕ)
 first_name [] = None
@@ -81,16 +86,36 @@ first_name (t ∷ rest) = name_of t
 unfoldable pub known_in : VSchema → Lexemes → Known
 known_in schema ts = record { first = table_named schema (first_name (table_on ts)); second = table_named schema (first_name (table_on (table_on ts))) }
 
+-- a type of texts, or of numbers
+abbrev pub is_kind : Bool → ColumnType → Bool
+is_kind true kind = is_text_type kind
+is_kind false kind = not (is_text_type kind)
+
+abbrev pub is_column : Bool → List ℕ → v.Column → Bool
+is_column texts name c = bytes_eq c.name name && is_kind texts c.kind
+
 -- whether a table has a column of that name, of texts or of numbers
 abbrev pub has_column : Bool → Option Table → List ℕ → Bool
 has_column texts None name = false
-has_column texts (Some t) name = list_any (λ c. bytes_eq c.name name && (if texts then is_text_type c.kind else not (is_text_type c.kind))) t.columns
+has_column texts (Some t) name = list_any (is_column texts name) t.columns
 
 -- the columns of that name hold numbers
 abbrev pub are_numbers : Known → Option (List ℕ) → Bool
 are_numbers x None = false
 are_numbers x (Some name) =
     (has_column false x.first name || has_column false x.second name) && not (has_column true x.first name || has_column true x.second name)
+
+-- whether a column has the name, in any case
+abbrev pub is_called : List ℕ → v.Column → Bool
+is_called name c = same_in_any_case c.name name
+
+abbrev pub names_column : Option Table → List ℕ → Bool
+names_column None name = false
+names_column (Some t) name = list_any (is_called name) t.columns
+
+abbrev pub names_known : Known → Option (List ℕ) → Bool
+names_known x None = false
+names_known x (Some name) = names_column x.first name || names_column x.second name
 
 -- ---- where a number is meant
 

@@ -1,7 +1,8 @@
 -- The words that MySQL 8.0 reserves, by 'Keywords and Reserved Words' of its reference manual: none is an alias without quotes.
-use Rattle.std.specs.Prelude.{ℕ, Bool, List, [], ◌∷◌, codes}
+use Rattle.std.specs.Prelude.{ℕ, Bool, List, [], ◌∷◌, codes, Option, Some, None, if◌then◌else◌}
 use Rattle.std.specs.List.{list_any}
 use Rattle.client_statements.specs.tokens.Keywords.{same_in_any_case}
+use Rattle.client_statements.specs.tokens.Pieces.{Lexeme, bare, named}
 
 abbrev pub reserved : List (List ℕ)
 reserved =
@@ -44,3 +45,9 @@ reserved =
 
 unfoldable pub is_reserved : List ℕ → Bool
 is_reserved word = list_any (same_in_any_case word) reserved
+
+-- what the alias of a table says
+unfoldable pub alias_of : Lexeme → Option (List ℕ)
+alias_of (bare key w) = if is_reserved w then None else Some w
+alias_of (named w) = Some w
+alias_of _ = None

@@ -22,8 +22,11 @@ pub data IsWhole (tokens : Lexemes) : List ℕ → Type 0 where
   whole : {front tail : List ℕ} → Becomes (table_of tokens) (parts_of tokens).front front → Becomes (table_of tokens) (parts_of tokens).tail tail
       → IsWhole tokens (front ++ group_text (parts_of tokens).groups ++ tail)
 
--- What a client says is this text, and gives its columns these names, in order. Its tokens, without
--- comments, aliases and quotes round numbers, become it.
+-- the tokens of a text without aliases and without quotes round numbers, and the names of its columns
+abbrev pub plain_of : VSchema → List ℕ → List Token → Lexemes × Names
+plain_of schema text tokens = unaliased schema (lexemes_of text (with_numbers schema text tokens))
+
+-- What a client says is this text, and gives its columns these names, in order. Its tokens, without comments, become it.
 pub data IsSaidAs (schema : VSchema) : List ℕ → List ℕ → Names → Type 0 where
   said : {text whole : List ℕ} {tokens : List Token} → HasTokens text tokens
-      → IsWhole (unaliased (lexemes_of text (with_numbers schema text tokens))).0 whole → IsSaidAs schema text whole (unaliased (lexemes_of text (with_numbers schema text tokens))).1
+      → IsWhole (plain_of schema text tokens).0 whole → IsSaidAs schema text whole (plain_of schema text tokens).1

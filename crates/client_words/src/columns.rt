@@ -1,16 +1,16 @@
 //! The columns that a text names, and whether they hold numbers.
-ghost use Rattle.std.specs.Prelude.{◌≡◌, not, ◌&&◌, ℕ, List, Bool, Option, IfOk, bytes_eq, map, if◌then◌else◌};
+ghost use Rattle.std.specs.Prelude.{◌≡◌, not, ℕ, List, Bool, Option, IfOk, map};
 ghost use Rattle.std.specs.Option.{option_copied};
 ghost use Rattle.std.specs.List.{list_any, find};
 ghost use Rattle.vschema.specs.Checks.{is_text_type};
 ghost use Rattle.client_statements.specs.tokens.Pieces.{lexeme_of, lexemes_of};
 ghost use Rattle.client_words.specs.Forms.{name_of};
-ghost use Rattle.client_words.specs.Numbers.{leads_table, table_on, table_named, first_name, known_in, has_column, are_numbers, all_kinds};
+ghost use Rattle.client_words.specs.Numbers.{leads_table, table_on, is_named, table_named, first_name, is_kind, is_column, is_called, known_in, has_column, are_numbers, all_kinds, names_column, names_known};
 ghost use Rattle.client_words.specs.inner.Known.{known_of};
 
 use crate::kinds::{FROM, INTO, JOIN, UPDATE};
 use crate::tables::name_of;
-use client_statements::tokens::Token;
+use client_statements::tokens::{Token, same_in_any_case};
 use sql_tree::Name;
 use std::alloc::{AllocError, Global};
 use vschema::{Column, ColumnType, Table, VSchema};
@@ -59,21 +59,27 @@ fn first_name(alloc: Global, text: &[u8], tokens: &[Token]) -> Result<Option<Nam
     }
 }
 
-fn is_named(table: &Table, name: &Name) -> bool
-    ensures { result ≡ bytes_eq table.now.name name.now }
+fn is_named(name: &Name, table: &Table) -> bool
+    ensures { result ≡ is_named name.now table.now }
 {
     table.name.as_slice() == name.as_slice()
+}
+
+fn table_of_name<'s>(schema: &'s VSchema, name: &Name) -> Option<&'s Table>
+    ensures { option_copied result ≡ find (is_named name.now) schema.now.tables }
+{
+    schema
+        .tables
+        .as_slice()
+        .iter()
+        .find(|table| is_named(name, table))
 }
 
 fn table_named<'s>(schema: &'s VSchema, name: &Option<Name>) -> Option<&'s Table>
     ensures { option_copied result ≡ table_named schema.now name.now }
 {
     match name {
-        Some(name) => schema
-            .tables
-            .as_slice()
-            .iter()
-            .find(|table| is_named(table, name)),
+        Some(name) => table_of_name(schema, name),
         None => None,
     }
 }
@@ -108,7 +114,7 @@ fn is_text_type(kind: ColumnType) -> bool
 
 /// Whether a type is one of texts, or of numbers.
 fn is_kind(texts: bool, kind: ColumnType) -> bool
-    ensures { result ≡ (if texts then is_text_type kind else not (is_text_type kind)) }
+    ensures { result ≡ is_kind texts kind }
 {
     if texts {
         is_text_type(kind)
@@ -119,20 +125,44 @@ fn is_kind(texts: bool, kind: ColumnType) -> bool
 
 /// Whether a column has the name, and holds texts or numbers.
 fn is_column(texts: bool, name: &Name, column: &Column) -> bool
-    ensures { result ≡ (bytes_eq column.now.name name.now && (if texts then is_text_type column.now.kind else not (is_text_type column.now.kind))) }
+    ensures { result ≡ is_column texts name.now column.now }
 {
     column.name.as_slice() == name.as_slice() && is_kind(texts, column.kind)
+}
+
+fn any_column(texts: bool, name: &Name, columns: &[Column]) -> bool
+    ensures { result ≡ list_any (is_column texts name.now) columns.now }
+{
+    columns.iter().any(|column| is_column(texts, name, column))
 }
 
 fn has_column(texts: bool, table: &Option<&Table>, name: &Name) -> bool
     ensures { result ≡ has_column texts (option_copied table.now) name.now }
 {
     match table {
-        Some(table) => table
-            .columns
-            .as_slice()
-            .iter()
-            .any(|column| is_column(texts, name, column)),
+        Some(table) => any_column(texts, name, table.columns.as_slice()),
+        None => false,
+    }
+}
+
+/// Whether a column has the name, in any case.
+fn is_called(name: &Name, column: &Column) -> bool
+    ensures { result ≡ is_called name.now column.now }
+{
+    same_in_any_case(column.name.as_slice(), name.as_slice())
+}
+
+fn any_called(name: &Name, columns: &[Column]) -> bool
+    ensures { result ≡ list_any (is_called name.now) columns.now }
+{
+    columns.iter().any(|column| is_called(name, column))
+}
+
+fn names_column(table: &Option<&Table>, name: &Name) -> bool
+    ensures { result ≡ names_column (option_copied table.now) name.now }
+{
+    match table {
+        Some(table) => any_called(name, table.columns.as_slice()),
         None => false,
     }
 }
@@ -159,6 +189,16 @@ impl Known<'_> {
         let numbers = has_column(false, &self.first, name) || has_column(false, &self.second, name);
         let texts = has_column(true, &self.first, name) || has_column(true, &self.second, name);
         numbers && !texts
+    }
+
+    /// Whether a column has the name, in any case.
+    pub fn names_known(&self, name: &Option<Name>) -> bool
+        ensures { result ≡ names_known (known_of self.now) name.now }
+    {
+        match name {
+            Some(name) => names_column(&self.first, name) || names_column(&self.second, name),
+            None => false,
+        }
     }
 
     /// Which columns of the first table hold numbers.

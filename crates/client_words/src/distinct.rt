@@ -21,7 +21,7 @@ pub struct Parts<'s> {
 }
 
 #[tactic(auto, unfolding(crate::specs::Distinct::ends_filter))]
-fn ends_filter(token: &Token) -> bool
+pub fn ends_filter(token: &Token) -> bool
     ensures { (text : List ℕ) → result ≡ ends_filter (lexeme_of text token.now) }
 {
     match token.kind {

@@ -5,7 +5,7 @@ ghost use Rattle.sql_lexer.specs.inner.Results.{AgreesWith};
 ghost use Rattle.client_statements.specs.tokens.Pieces.{lexemes_of, said_by};
 ghost use Rattle.client_words.specs.InsertSet.{insert_set_at};
 ghost use Rattle.client_words.specs.Spelling.{spelled};
-ghost use Rattle.client_words.specs.Forms.{between_word_at, and_at, within_text, between_text, between_at, star_at, limit_at, if_operator, operator_at, work_at, insert_at, count_at, is_introducer, introduced_at, form_at};
+ghost use Rattle.client_words.specs.Forms.{between_word_at, and_at, within_text, between_text, between_at, star_at, limit_at, if_operator, operator_at, work_at, insert_at, update_at, count_at, is_introducer, introduced_at, form_at};
 
 use crate::insert_set::insert_set;
 use crate::kinds::{
@@ -14,7 +14,7 @@ use crate::kinds::{
 };
 use crate::operands::{Written, one, operand};
 use crate::spelling::put;
-use crate::tables::{qualifier, star, unqualified};
+use crate::tables::{qualifier, star, unqualified, update};
 use client_statements::tokens::{Token, TokenKind, bytes_of, said, same_in_any_case};
 use sql_tree::Name;
 use std::alloc::{AllocError, Global};
@@ -344,11 +344,23 @@ fn value_form<'s>(alloc: Global, text: &[u8], tokens: &'s [Token]) -> Result<Wri
     }
 }
 
+/// A form of UPDATE, of INSERT, or of a value.
+fn write_form<'s>(alloc: Global, text: &[u8], tokens: &'s [Token]) -> Result<Written<'s>, Refusal>
+    ensures written { AgreesWith (λ x. (x.0, lexemes_of text.now x.1.now)) result
+        (option_or (update_at (lexemes_of text.now tokens.now)) (option_or (insert_set_at (lexemes_of text.now tokens.now)) (option_or (insert_at (lexemes_of text.now tokens.now)) (option_or (count_at (lexemes_of text.now tokens.now)) (introduced_at (lexemes_of text.now tokens.now)))))) }
+    ensures shorter { IfOk result (λ x. length x.1.now < length tokens.now) }
+{
+    match update(alloc, text, tokens) {
+        Err(Refusal::SyntaxError) => value_form(alloc, text, tokens),
+        read => read,
+    }
+}
+
 /// A form that begins with an operator or with a statement's first word.
 fn other_form<'s>(alloc: Global, text: &[u8], tokens: &'s [Token]) -> Result<Written<'s>, Refusal>
     ensures written { AgreesWith (λ x. (x.0, lexemes_of text.now x.1.now)) result
         (option_or (operator_at (lexemes_of text.now tokens.now)) (option_or (work_at (lexemes_of text.now tokens.now))
-        (option_or (insert_set_at (lexemes_of text.now tokens.now)) (option_or (insert_at (lexemes_of text.now tokens.now)) (option_or (count_at (lexemes_of text.now tokens.now)) (introduced_at (lexemes_of text.now tokens.now))))))) }
+        (option_or (update_at (lexemes_of text.now tokens.now)) (option_or (insert_set_at (lexemes_of text.now tokens.now)) (option_or (insert_at (lexemes_of text.now tokens.now)) (option_or (count_at (lexemes_of text.now tokens.now)) (introduced_at (lexemes_of text.now tokens.now)))))))) }
     ensures shorter { IfOk result (λ x. length x.1.now < length tokens.now) }
 {
     match operator(alloc, text, tokens) {
@@ -356,7 +368,7 @@ fn other_form<'s>(alloc: Global, text: &[u8], tokens: &'s [Token]) -> Result<Wri
         read => return read,
     }
     match work(alloc, tokens) {
-        Err(Refusal::SyntaxError) => value_form(alloc, text, tokens),
+        Err(Refusal::SyntaxError) => write_form(alloc, text, tokens),
         read => read,
     }
 }
@@ -366,7 +378,7 @@ fn word_form<'s>(alloc: Global, text: &[u8], tokens: &'s [Token]) -> Result<Writ
     ensures written { AgreesWith (λ x. (x.0, lexemes_of text.now x.1.now)) result
         (option_or (star_at (lexemes_of text.now tokens.now)) (option_or (limit_at (lexemes_of text.now tokens.now))
         (option_or (operator_at (lexemes_of text.now tokens.now)) (option_or (work_at (lexemes_of text.now tokens.now))
-        (option_or (insert_set_at (lexemes_of text.now tokens.now)) (option_or (insert_at (lexemes_of text.now tokens.now)) (option_or (count_at (lexemes_of text.now tokens.now)) (introduced_at (lexemes_of text.now tokens.now))))))))) }
+        (option_or (update_at (lexemes_of text.now tokens.now)) (option_or (insert_set_at (lexemes_of text.now tokens.now)) (option_or (insert_at (lexemes_of text.now tokens.now)) (option_or (count_at (lexemes_of text.now tokens.now)) (introduced_at (lexemes_of text.now tokens.now)))))))))) }
     ensures shorter { IfOk result (λ x. length x.1.now < length tokens.now) }
 {
     match star(alloc, text, tokens) {

@@ -3,11 +3,11 @@ ghost use Rattle.std.specs.Prelude.{◌≡◌, ◌<◌, ◌≤◌, ◌++◌, ℕ
 ghost use Rattle.sql_lexer.specs.inner.Results.{AgreesWith};
 ghost use Rattle.client_statements.specs.tokens.Pieces.{lexeme_of, lexemes_of};
 ghost use Rattle.client_words.specs.Spelling.{spelled};
-ghost use Rattle.client_words.specs.InsertSet.{columns_in, values_in, after_sets, row_text, insert_set_at};
+ghost use Rattle.client_words.specs.InsertSet.{columns_in, values_in, after_sets, row_text, row_at, insert_set_at};
 
-use crate::aliases::{is_comma, is_equal, is_semicolon, push};
+use crate::aliases::{is_comma, is_equal, is_semicolon, push, without_into};
 use crate::distinct::put_words;
-use crate::kinds::{INSERT, INTO, SET};
+use crate::kinds::{INSERT, SET};
 use crate::operands::Written;
 use crate::spelling::{put, put_word};
 use client_statements::tokens::Token;
@@ -108,6 +108,20 @@ fn row_text(
     Ok(Items::from_vec(out))
 }
 
+/// table SET column = value,.. as the INSERT of a row.
+#[tactic(auto, unfolding(crate::specs::InsertSet::row_at))]
+fn row<'s>(alloc: Global, text: &[u8], tokens: &'s [Token]) -> Result<Written<'s>, Refusal>
+    ensures written { AgreesWith (λ x. (x.0, lexemes_of text.now x.1.now)) result (row_at (lexemes_of text.now tokens.now)) }
+    ensures shorter { IfOk result (λ x. length x.1.now < length tokens.now) }
+{
+    match tokens {
+        [table, Token { kind: SET, .. }, rest @ ..] => {
+            Ok((row_text(alloc, text, table, rest)?, after_sets(rest)))
+        }
+        _ => Err(Refusal::SyntaxError),
+    }
+}
+
 /// INSERT [INTO] table SET column = value,..
 #[tactic(auto, unfolding(crate::specs::InsertSet::insert_set_at))]
 pub fn insert_set<'s>(
@@ -119,19 +133,7 @@ pub fn insert_set<'s>(
     ensures shorter { IfOk result (λ x. length x.1.now < length tokens.now) }
 {
     match tokens {
-        [
-            Token { kind: INSERT, .. },
-            Token { kind: INTO, .. },
-            table,
-            Token { kind: SET, .. },
-            rest @ ..,
-        ] => Ok((row_text(alloc, text, table, rest)?, after_sets(rest))),
-        [
-            Token { kind: INSERT, .. },
-            table,
-            Token { kind: SET, .. },
-            rest @ ..,
-        ] => Ok((row_text(alloc, text, table, rest)?, after_sets(rest))),
+        [Token { kind: INSERT, .. }, rest @ ..] => row(alloc, text, without_into(rest)),
         _ => Err(Refusal::SyntaxError),
     }
 }

@@ -1,6 +1,6 @@
 //! Numbers in quotes, where a column holds numbers.
 ghost use Rattle.std.specs.Prelude.{◌≡◌, ◌<◌, ◌++◌, [], ◌∷◌, ◌+◌, ℕ, List, Bool, Option, IfOk, OnOk, drop};
-ghost use Rattle.std.specs.Option.{option_copied};
+ghost use Rattle.std.specs.List.{list_all};
 ghost use Rattle.sql_lexer.specs.Lexemes.{is_digit};
 ghost use Rattle.client_statements.specs.tokens.Pieces.{lexeme_of, lexemes_of};
 ghost use Rattle.client_words.specs.Forms.{name_of};
@@ -21,14 +21,17 @@ fn is_digit(byte: u8) -> bool
     byte.is_ascii_digit()
 }
 
-#[tactic(auto, unfolding(crate::specs::Numbers::are_digits))]
+fn all_digits(bytes: &[u8]) -> bool
+    ensures { result ≡ list_all is_digit bytes.now }
+{
+    bytes.iter().all(|byte| is_digit(*byte))
+}
+
+/// Whether bytes are one or more digits.
 fn are_digits(bytes: &[u8]) -> bool
     ensures { result ≡ are_digits bytes.now }
 {
-    match bytes {
-        [] => false,
-        [_, ..] => bytes.iter().all(|byte| is_digit(*byte)),
-    }
+    !bytes.is_empty() && all_digits(bytes)
 }
 
 #[tactic(auto, unfolding(crate::specs::Numbers::is_text))]

@@ -95,7 +95,7 @@ pub fn said_as(alloc: Global, schema: &VSchema, text: &[u8]) -> Result<Option<Sa
         return Ok(None);
     };
     let tokens = with_numbers(alloc, schema, text, tokens.as_slice())?;
-    let query = unaliased(alloc, text, tokens)?;
+    let query = unaliased(alloc, schema, text, tokens)?;
     let text = said_text(alloc, text, query.tokens.as_slice())?;
     Ok(Some(Said {
         text,

@@ -3,8 +3,9 @@ ghost use Rattle.std.specs.Prelude.{◌≡◌, ◌≤◌, ◌<◌, ◌++◌, ℕ
 ghost use Rattle.sql_lexer.specs.inner.Results.{AgreesWith};
 ghost use Rattle.client_statements.specs.tokens.Pieces.{lexeme_of, lexemes_of};
 ghost use Rattle.client_words.specs.Spelling.{spelled};
-ghost use Rattle.client_words.specs.Forms.{name_of, before_set, before_where, table_of, is_table, unqualified, qualifier_at, is_one_table, star_at};
+ghost use Rattle.client_words.specs.Forms.{name_of, alias_before_set, before_set, before_where, table_of, is_table, unqualified, qualifier_at, is_one_table, star_at, update_text, if_aliased, aliased_set_at, update_at};
 
+use crate::aliases::{alias_of, is_alias, leads_set, without_as};
 use crate::kinds::{
     DELETE, DOT, FROM, GROUP, LIMIT, ORDER, SELECT, SEMICOLON, SET, STAR, UPDATE, WHERE,
 };
@@ -25,15 +26,35 @@ pub fn name_of(alloc: Global, text: &[u8], token: &Token) -> Result<Option<Name>
     }
 }
 
-/// The table before SET.
+/// The alias of the table before SET.
+fn alias_before_set(
+    alloc: Global,
+    text: &[u8],
+    tokens: &[Token],
+) -> Result<Option<Name>, AllocError>
+    ensures { IfOk result (λ table. table ≡ alias_before_set (lexemes_of text.now tokens.now)) }
+{
+    let [alias, rest @ ..] = tokens else {
+        return Ok(None);
+    };
+    if leads_set(rest) {
+        return alias_of(alloc, text, alias);
+    }
+    Ok(None)
+}
+
+/// The alias of the table before SET, or its own name.
 #[tactic(auto, unfolding(crate::specs::Forms::before_set))]
 fn before_set(alloc: Global, text: &[u8], tokens: &[Token]) -> Result<Option<Name>, AllocError>
     ensures { IfOk result (λ table. table ≡ before_set (lexemes_of text.now tokens.now)) }
 {
-    match tokens {
-        [table, Token { kind: SET, .. }, ..] => name_of(alloc, text, table),
-        _ => Ok(None),
+    let [table, rest @ ..] = tokens else {
+        return Ok(None);
+    };
+    if leads_set(rest) {
+        return name_of(alloc, text, table);
     }
+    alias_before_set(alloc, text, without_as(rest))
 }
 
 /// The table before WHERE.
@@ -194,6 +215,65 @@ pub fn star<'s>(alloc: Global, text: &[u8], tokens: &'s [Token]) -> Result<Writt
             } else {
                 Err(Refusal::SyntaxError)
             }
+        }
+        _ => Err(Refusal::SyntaxError),
+    }
+}
+
+fn update_text(alloc: Global, text: &[u8], table: &Token) -> Result<Items<u8>, AllocError>
+    ensures { IfOk result (λ written. written ≡ update_text (lexeme_of text.now table.now)) }
+{
+    let mut out = Vec::new(alloc);
+    put(&mut out, b" UPDATE")?;
+    put_word(alloc, &mut out, text, table)?;
+    put(&mut out, b" SET")?;
+    Ok(Items::from_vec(out))
+}
+
+/// The UPDATE of a table without this alias, if it is one.
+fn if_aliased<'s>(
+    alloc: Global,
+    text: &[u8],
+    table: &Token,
+    alias: &Token,
+    rest: &'s [Token],
+) -> Result<Written<'s>, Refusal>
+    ensures written { AgreesWith (λ x. (x.0, lexemes_of text.now x.1.now)) result (if_aliased (lexeme_of text.now table.now) (lexeme_of text.now alias.now) (lexemes_of text.now rest.now)) }
+    ensures rest { IfOk result (λ x. x.1.now ≡ rest.now) }
+{
+    if is_alias(text, table) && is_alias(text, alias) {
+        Ok((update_text(alloc, text, table)?, rest))
+    } else {
+        Err(Refusal::SyntaxError)
+    }
+}
+
+/// [AS] alias SET, after UPDATE and its table.
+#[tactic(auto, unfolding(crate::specs::Forms::aliased_set_at))]
+fn aliased_set<'s>(
+    alloc: Global,
+    text: &[u8],
+    table: &Token,
+    tokens: &'s [Token],
+) -> Result<Written<'s>, Refusal>
+    ensures written { AgreesWith (λ x. (x.0, lexemes_of text.now x.1.now)) result (aliased_set_at (lexeme_of text.now table.now) (lexemes_of text.now tokens.now)) }
+    ensures shorter { IfOk result (λ x. length x.1.now < length tokens.now) }
+{
+    match tokens {
+        [alias, Token { kind: SET, .. }, rest @ ..] => if_aliased(alloc, text, table, alias, rest),
+        _ => Err(Refusal::SyntaxError),
+    }
+}
+
+/// UPDATE table [AS] alias SET
+#[tactic(auto, unfolding(crate::specs::Forms::update_at))]
+pub fn update<'s>(alloc: Global, text: &[u8], tokens: &'s [Token]) -> Result<Written<'s>, Refusal>
+    ensures written { AgreesWith (λ x. (x.0, lexemes_of text.now x.1.now)) result (update_at (lexemes_of text.now tokens.now)) }
+    ensures shorter { IfOk result (λ x. length x.1.now < length tokens.now) }
+{
+    match tokens {
+        [Token { kind: UPDATE, .. }, table, rest @ ..] => {
+            aliased_set(alloc, text, table, without_as(rest))
         }
         _ => Err(Refusal::SyntaxError),
     }

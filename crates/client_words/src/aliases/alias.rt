@@ -1,10 +1,12 @@
 //! What may be an alias, and which tokens are told by their kind alone.
-ghost use Rattle.std.specs.Prelude.{◌≡◌, ◌++◌, [], ◌∷◌, ℕ, List, IfOk, OnOk, is_some};
+ghost use Rattle.std.specs.Prelude.{◌≡◌, ◌≤◌, ◌++◌, [], ◌∷◌, ℕ, List, IfOk, OnOk, is_some, length};
 ghost use Rattle.client_statements.specs.tokens.Pieces.{lexeme_of, lexemes_of};
-ghost use Rattle.client_words.specs.Aliases.{alias_of, column_alias_of, leads_dot};
-ghost use Rattle.client_words.specs.Marks.{is_from, is_as, is_comma, is_close, is_dot, is_order, is_equal, is_semicolon};
+ghost use Rattle.client_words.specs.Aliases.{column_alias_of, leads_dot};
+ghost use Rattle.client_words.specs.Forms.{leads_set};
+ghost use Rattle.client_words.specs.Reserved.{alias_of};
+ghost use Rattle.client_words.specs.Marks.{is_from, is_as, is_comma, is_close, is_dot, is_order, is_group, is_set, without_as, without_into, is_equal, is_semicolon};
 
-use crate::kinds::{AS, CLOSE, COMMA, DOT, EQUAL, FROM, ORDER, SEMICOLON};
+use crate::kinds::{AS, CLOSE, COMMA, DOT, EQUAL, FROM, GROUP, INTO, ORDER, SEMICOLON, SET};
 use crate::reserved::is_reserved;
 use client_statements::tokens::{Token, TokenKind, bytes_of, said};
 use sql_tree::Name;
@@ -12,7 +14,7 @@ use std::alloc::{AllocError, Global};
 use vt_value::Items;
 
 /// Whether a token may be the alias of a table.
-#[tactic(auto, unfolding(crate::specs::Aliases::alias_of))]
+#[tactic(auto, unfolding(crate::specs::Reserved::alias_of))]
 pub fn is_alias(text: &[u8], token: &Token) -> bool
     ensures { result ≡ is_some (alias_of (lexeme_of text.now token.now)) }
 {
@@ -24,7 +26,7 @@ pub fn is_alias(text: &[u8], token: &Token) -> bool
 }
 
 /// Whether a token may be the alias of a column.
-#[tactic(auto, unfolding(crate::specs::Aliases::column_alias_of, crate::specs::Aliases::alias_of))]
+#[tactic(auto, unfolding(crate::specs::Aliases::column_alias_of, crate::specs::Reserved::alias_of))]
 pub fn is_column_alias(text: &[u8], token: &Token) -> bool
     ensures { result ≡ is_some (column_alias_of (lexeme_of text.now token.now)) }
 {
@@ -35,7 +37,7 @@ pub fn is_column_alias(text: &[u8], token: &Token) -> bool
 }
 
 /// What the alias of a table says.
-#[tactic(auto, unfolding(crate::specs::Aliases::alias_of))]
+#[tactic(auto, unfolding(crate::specs::Reserved::alias_of))]
 pub fn alias_of(alloc: Global, text: &[u8], token: &Token) -> Result<Option<Name>, AllocError>
     ensures { IfOk result (λ alias. alias ≡ alias_of (lexeme_of text.now token.now)) }
 {
@@ -53,7 +55,7 @@ pub fn alias_of(alloc: Global, text: &[u8], token: &Token) -> Result<Option<Name
 }
 
 /// What the alias of a column says.
-#[tactic(auto, unfolding(crate::specs::Aliases::column_alias_of, crate::specs::Aliases::alias_of))]
+#[tactic(auto, unfolding(crate::specs::Aliases::column_alias_of, crate::specs::Reserved::alias_of))]
 pub fn column_alias_of(
     alloc: Global,
     text: &[u8],
@@ -124,6 +126,60 @@ pub fn is_order(token: &Token) -> bool
     match token.kind {
         ORDER => true,
         _ => false
+    }
+}
+
+#[tactic(auto, unfolding(crate::specs::Marks::is_group))]
+pub fn is_group(token: &Token) -> bool
+    ensures { (text : List ℕ) → result ≡ is_group (lexeme_of text token.now) }
+{
+    match token.kind {
+        GROUP => true,
+        _ => false,
+    }
+}
+
+#[tactic(auto, unfolding(crate::specs::Marks::is_set))]
+fn is_set(token: &Token) -> bool
+    ensures { (text : List ℕ) → result ≡ is_set (lexeme_of text token.now) }
+{
+    match token.kind {
+        SET => true,
+        _ => false,
+    }
+}
+
+/// Whether SET is at the front.
+pub fn leads_set(tokens: &[Token]) -> bool
+    ensures { (text : List ℕ) → result ≡ leads_set (lexemes_of text tokens.now) }
+{
+    match tokens {
+        [] => false,
+        [first, ..] => is_set(first),
+    }
+}
+
+/// The tokens without AS at the front.
+#[tactic(auto, unfolding(crate::specs::Marks::without_as))]
+pub fn without_as(tokens: &[Token]) -> &[Token]
+    ensures same { (text : List ℕ) → lexemes_of text result.now ≡ without_as (lexemes_of text tokens.now) }
+    ensures shorter { length result.now ≤ length tokens.now }
+{
+    match tokens {
+        [Token { kind: AS, .. }, rest @ ..] => rest,
+        _ => tokens,
+    }
+}
+
+/// The tokens without INTO at the front.
+#[tactic(auto, unfolding(crate::specs::Marks::without_into))]
+pub fn without_into(tokens: &[Token]) -> &[Token]
+    ensures same { (text : List ℕ) → lexemes_of text result.now ≡ without_into (lexemes_of text tokens.now) }
+    ensures shorter { length result.now ≤ length tokens.now }
+{
+    match tokens {
+        [Token { kind: INTO, .. }, rest @ ..] => rest,
+        _ => tokens,
     }
 }
 

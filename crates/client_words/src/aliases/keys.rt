@@ -122,7 +122,7 @@ fn push_key(
 }
 
 /// Puts the first token of these, or what it says.
-fn push_first(
+pub fn push_first(
     alloc: Global,
     text: &[u8],
     out: &mut Items<Token>,
