@@ -74,6 +74,12 @@ pub data Tries (literal : Value) : List (List ℕ) → List Value → Type 0 whe
   next : {piece : List ℕ} {pieces : List (List ℕ)} {v : Value} {values : List Value} → TriesHole literal piece v → Tries literal pieces values
       → Tries literal (piece ∷ pieces) (v ∷ values)
 
+-- the text with what its holes are tried with
+pub record TriedText (literal : Value) (pieces : List (List ℕ)) (text : List ℕ) : Type 0 where
+  pub values : List Value
+  pub tries : Tries literal pieces values
+  pub is : text ≡ filled pieces values
+
 -- with the literal in its holes it is this statement
 pub record ReadsTried (literal : Value) (pieces : List (List ℕ)) (statement : Statement) : Type 0 where
   pub values : List Value

@@ -14,4 +14,4 @@ pub use filling::filled;
 pub use held::{Held, MAX_STATEMENTS, NotExecuted, NotHeld, Prepared};
 pub use laws::values_are_literals;
 pub use size::MAX_SIZE;
-pub use trying::{PreparedText, read_prepared};
+pub use trying::{PreparedText, cut, read_prepared, with_minus_one, with_null};

@@ -1,11 +1,12 @@
 //! Which texts may be prepared.
-ghost use Rattle.std.specs.Prelude.{◌≡◌, ◌↔◌, true, ◌⊎◌, ◌≤◌, ℕ, List, [], ◌∷◌, length, None, IfOk, IfErr, IfSome, MatchResult, pos, negsuc};
+ghost use Rattle.std.specs.Prelude.{◌≡◌, ◌↔◌, true, ◌⊎◌, ◌≤◌, ◌<◌, ℕ, List, [], ◌∷◌, length, None, IfOk, IfErr, IfSome, MatchResult, pos, negsuc};
 ghost use Rattle.sql_lexer.specs.Value.{Value};
 ghost use Rattle.sql_tree.specs.declared.Statement.{Statement};
 ghost use Rattle.sql_lexer.specs.declared.token.Token.{Token as LexedToken};
 ghost use Rattle.sql_lexer.specs.Tokens.{Lexes};
 ghost use Rattle.prepared_statements.specs.inner.Cutting.{literal_of};
-ghost use Rattle.prepared_statements.specs.Texts.{is_count_word, counts_after, TriesHole, Tries, ReadsTried, MayBePrepared};
+ghost use Rattle.sql_lexer.specs.Value.TheVariants.{Int, Null};
+ghost use Rattle.prepared_statements.specs.Texts.{pieces_of, is_count_word, counts_after, TriesHole, Tries, TriedText, ReadsTried, MayBePrepared};
 
 use crate::cutting::pieces_of;
 use crate::filling::{filled, first_piece};
@@ -106,6 +107,48 @@ fn try_holes(alloc: Global, tried: Tried, pieces: &[Items<u8>]) -> Result<Items<
         left = more;
     }
     Err(Refusal::SyntaxError)
+}
+
+/// The text with what its holes are tried with.
+fn tried_text(alloc: Global, tried: Tried, pieces: &[Items<u8>]) -> Result<Vec<u8>, Refusal>
+    ensures found { IfOk result (λ x. TriedText (literal_of tried) pieces.now x.items) }
+    ensures only { (text : List ℕ) → TriedText (literal_of tried) pieces.now text → MatchResult result (λ x. x.items ≡ text) (λ e. e ≡ Refusal.OutOfMemory) }
+    ensures err { IfErr result (λ e. (e ≡ Refusal.OutOfMemory) ⊎ (e ≡ Refusal.SyntaxError)) }
+{
+    match try_holes(alloc, tried, pieces) {
+        Ok(values) => Ok(filled(alloc, pieces, values.as_slice())?),
+        Err(why) => Err(why),
+    }
+}
+
+/// The text of pieces with -1 where a literal stands and 0 where a count does. It is a syntax error if its pieces aren't whole tokens.
+pub fn with_minus_one(alloc: Global, pieces: &[Items<u8>]) -> Result<Vec<u8>, Refusal>
+    ensures found { IfOk result (λ x. TriedText (Int (negsuc 0)) pieces.now x.items) }
+    ensures only { (text : List ℕ) → TriedText (Int (negsuc 0)) pieces.now text → MatchResult result (λ x. x.items ≡ text) (λ e. e ≡ Refusal.OutOfMemory) }
+    ensures err { IfErr result (λ e. (e ≡ Refusal.OutOfMemory) ⊎ (e ≡ Refusal.SyntaxError)) }
+{
+    tried_text(alloc, Tried::MinusOne, pieces)
+}
+
+/// The same with NULL where a literal stands.
+pub fn with_null(alloc: Global, pieces: &[Items<u8>]) -> Result<Vec<u8>, Refusal>
+    ensures found { IfOk result (λ x. TriedText Null pieces.now x.items) }
+    ensures only { (text : List ℕ) → TriedText Null pieces.now text → MatchResult result (λ x. x.items ≡ text) (λ e. e ≡ Refusal.OutOfMemory) }
+    ensures err { IfErr result (λ e. (e ≡ Refusal.OutOfMemory) ⊎ (e ≡ Refusal.SyntaxError)) }
+{
+    tried_text(alloc, Tried::Null, pieces)
+}
+
+/// The bytes before, between and after the holes of a text that hasn't too many.
+pub fn cut(alloc: Global, text: &[u8]) -> Result<Items<Items<u8>>, Refusal>
+    ensures found { IfOk result (λ pieces. (pieces ≡ pieces_of text.now) × (length pieces ≤ 4097)) }
+    ensures err { IfErr result (λ e. (e ≡ Refusal.OutOfMemory) ⊎ ((e ≡ Refusal.SyntaxError) × (4097 < length (pieces_of text.now)))) }
+{
+    let pieces = pieces_of(alloc, text)?;
+    if pieces.len() > MAX_PIECES {
+        return Err(Refusal::SyntaxError);
+    }
+    Ok(pieces)
 }
 
 /// The statement that a text is with these in its holes.
