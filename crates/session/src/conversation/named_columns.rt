@@ -5,7 +5,6 @@ ghost use Rattle.session.specs.conversation.GivesText.{named_column, named_colum
 ghost use Rattle.session.specs.conversation.inner.Means.{IsRows};
 
 use crate::conversation::client_reply::{ClientReply, ClientReplyKind, ShownSet};
-use crate::conversation::local_answers::refused;
 use resultset::{Column, ColumnText};
 use sql_tree::Name;
 use std::alloc::{AllocError, Global};
@@ -15,23 +14,9 @@ use vt_value::{Items, Refusal};
 fn with_name(column: Column<'_>, name: Name) -> Column<'_>
     ensures { result ≡ record column.entry { name = name } }
 {
-    let Column {
-        schema,
-        table,
-        name: _,
-        org_name,
-        kind,
-        flags,
-        ..
-    } = column;
-    Column {
-        schema,
-        table,
-        name: ColumnText::own(name),
-        org_name,
-        kind,
-        flags,
-    }
+    let mut column = column;
+    column.name = ColumnText::own(name);
+    column
 }
 
 /// The column at a position under the name there, if there is one.
@@ -67,6 +52,19 @@ fn last_first<'e>(
     Ok(named)
 }
 
+/// Columns under their names.
+pub(crate) fn named_list<'e>(
+    alloc: Global,
+    names: &[Option<Name>],
+    columns: Items<Column<'e>>,
+) -> Result<Items<Column<'e>>, AllocError>
+    ensures { IfOk result (λ named. named ≡ named_columns names.now columns.entry) }
+{
+    let mut columns = last_first(alloc, names, columns)?;
+    columns.reverse();
+    Ok(Items::from_vec(columns))
+}
+
 fn named_set<'e>(
     alloc: Global,
     set: ShownSet<'e>,
@@ -75,12 +73,24 @@ fn named_set<'e>(
     ensures { IfOk result (λ named. named ≡ record set.entry { columns = named_columns names.now set.entry.columns }) }
 {
     let ShownSet { columns, rows } = set;
-    let mut columns = last_first(alloc, names, columns)?;
-    columns.reverse();
     Ok(ShownSet {
-        columns: Items::from_vec(columns),
+        columns: named_list(alloc, names, columns)?,
         rows,
     })
+}
+
+/// Rows whose columns have these names, or, if there is no memory for them, the refusal that says so.
+fn named_rows<'e>(alloc: Global, set: ShownSet<'e>, names: &[Option<Name>]) -> ClientReply<'e>
+    ensures { (result ≡ named_outcome names.now (Outcome.Rows set.entry)) ⊎ (result ≡ Outcome.Refused Refusal.OutOfMemory) }
+{
+    match named_set(alloc, set, names) {
+        Ok(set) => ClientReply {
+            reply_kind: ClientReplyKind::Rows(set),
+        },
+        Err(_) => ClientReply {
+            reply_kind: ClientReplyKind::Refused(Refusal::OutOfMemory),
+        },
+    }
 }
 
 /// A reply whose columns have these names, or, if there is no memory for them, the refusal that says so.
@@ -88,12 +98,12 @@ pub fn named<'e>(alloc: Global, reply: ClientReply<'e>, names: &[Option<Name>]) 
     ensures { (result ≡ named_outcome names.now reply.entry) ⊎ (IsRows reply.entry × (result ≡ Outcome.Refused Refusal.OutOfMemory)) }
 {
     match reply.reply_kind {
-        ClientReplyKind::Rows(set) => match named_set(alloc, set, names) {
-            Ok(set) => ClientReply {
-                reply_kind: ClientReplyKind::Rows(set),
-            },
-            Err(_) => refused(Refusal::OutOfMemory),
+        ClientReplyKind::Rows(set) => named_rows(alloc, set, names),
+        ClientReplyKind::Count(count) => ClientReply {
+            reply_kind: ClientReplyKind::Count(count),
         },
-        other => ClientReply { reply_kind: other },
+        ClientReplyKind::Refused(why) => ClientReply {
+            reply_kind: ClientReplyKind::Refused(why),
+        },
     }
 }
