@@ -10,5 +10,6 @@ pub mod TextColumns
 pub mod OwnAnswers
 pub mod TextLemmas
 pub mod NamedColumns
+pub mod HeldTexts
 pub mod KeptLemmas
 pub mod StatementReplies

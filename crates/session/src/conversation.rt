@@ -9,6 +9,7 @@ mod connection_state;
 mod device;
 mod devices;
 mod end;
+mod held_texts;
 mod local_answers;
 mod login;
 mod named_columns;

@@ -14,7 +14,7 @@ use Rattle.resultset.specs.declared.SetEnd.{SetEnd}
 use Rattle.resultset.specs.PreparedReplies.{prepare_encoded}
 use Rattle.prepared_statements.specs.declared.held.NotExecuted.{NotExecuted}
 use Rattle.prepared_statements.specs.declared.held.NotExecuted.TheVariants as x
-use Rattle.prepared_statements.specs.Texts.{MayBePrepared}
+use Rattle.client_words.specs.Aliases.{Names}
 use Rattle.prepared_statements.specs.Held.{Places, AddsHeld, newly_prepared, no_values}
 use Rattle.shard_run.specs.Runs.{Opening}
 use Rattle.route_engine.specs.Limits.{Limits}
@@ -24,7 +24,7 @@ use Rattle.session.specs.declared.conversation.connection_state.Phase.TheVariant
 use Rattle.session.specs.declared.conversation.connection_state.ConnectionState.TheVariants.{At}
 use Rattle.session.specs.conversation.Means.{PassAndTransaction, Means, context_of}
 use Rattle.session.specs.conversation.Packets.{reply_number}
-use Rattle.session.specs.conversation.Prepared.{is_select, names_unknown, ShowsColumns, NotPrepared, AnswersStatement}
+use Rattle.session.specs.conversation.Prepared.{is_select, names_unknown, ShowsColumns, ShowsNamed, MayBeHeld, NotPrepared, AnswersStatement}
 use Rattle.session.specs.conversation.Prepared as a
 use Rattle.session.specs.conversation.SessionContext.{status_in}
 use Rattle.session.specs.conversation.Talk.{AnswersPayload, set_end_of}
@@ -37,15 +37,15 @@ pub wrong_is : (w : NotExecuted) → w ≡ x.Wrong → w ≡ x.OutOfMemory → �
 wrong_is w e f = let differs : x.Wrong ≡ x.OutOfMemory = sym e ∙ f in cc
 
 -- a statement that is held, as it is told
-pub told : (schema : VSchema) (end : SetEnd) (status number : ℕ) (held then : Places) (text : List ℕ) (pieces : List (List ℕ)) (statement : Statement) (columns : List R.Column)
-    (n holes : ℕ) (out : List ℕ) → holes ≡ length pieces - 1 → MayBePrepared text pieces statement → ShowsColumns schema statement columns
+pub told : (schema : VSchema) (end : SetEnd) (status number : ℕ) (held then : Places) (text : List ℕ) (pieces : List (List ℕ)) (statement : Statement) (names : Names)
+    (columns : List R.Column) (n holes : ℕ) (out : List ℕ) → holes ≡ length pieces - 1 → MayBeHeld schema text pieces statement names → ShowsNamed schema statement names columns
     → AddsHeld held (newly_prepared pieces (no_values pieces)) n then
     → (out ≡ prepare_encoded end n columns holes number status) ⊎ (out ≡ frame number (err_payload r.OutOfMemory))
     → AnswersStatement schema end status number held (prepare text) out then
-told schema end status number held then text pieces statement columns n holes out is may shows adds (inl e) =
+told schema end status number held then text pieces statement names columns n holes out is may shows adds (inl e) =
     subst (λ (bs : List ℕ). AnswersStatement schema end status number held (prepare text) bs then)
     (sym (e ∙ ap (λ (h : ℕ). prepare_encoded end n columns h number status) is)) (a.prepared may shows adds)
-told schema end status number held then text pieces statement columns n holes out is may shows adds (inr e) =
+told schema end status number held then text pieces statement names columns n holes out is may shows adds (inr e) =
     subst (λ (bs : List ℕ). AnswersStatement schema end status number held (prepare text) bs then) (sym e) (a.untold may adds)
 
 -- what isn't executed leaves all as it is
@@ -77,15 +77,15 @@ refused_is schema statement why e selects (inr typed) is (same, inr sure) = inr 
 )
 
 -- why a text isn't prepared that could be read
-pub not_shown : (schema : VSchema) (text : List ℕ) (pieces : List (List ℕ)) (statement : Statement) (why : Refusal) → MayBePrepared text pieces statement
+pub not_shown : (schema : VSchema) (text : List ℕ) (pieces : List (List ℕ)) (statement : Statement) (names : Names) (why : Refusal)
+    → MayBeHeld schema text pieces statement names
     → (why ≡ r.OutOfMemory) ⊎ ((typed_statement schema statement ≡ Err why) × ((is_select statement || names_unknown why) ≡ true)) → NotPrepared schema text why
-not_shown schema text pieces statement why may (inl memory) = subst (λ (w : Refusal). NotPrepared schema text w) (sym memory) a.no_memory
-not_shown schema text pieces statement why may (inr (typed, sure)) = a.refused may typed sure
+not_shown schema text pieces statement names why may (inl memory) = subst (λ (w : Refusal). NotPrepared schema text w) (sym memory) a.no_memory
+not_shown schema text pieces statement names why may (inr (typed, sure)) = a.refused may typed sure
 
 -- why a text couldn't be
-pub not_read : (schema : VSchema) (text : List ℕ) (why : Refusal) → (why ≡ r.OutOfMemory) ⊎ (why ≡ r.SyntaxError)
-    → ((pieces : List (List ℕ)) (statement : Statement) → MayBePrepared text pieces statement → why ≡ r.OutOfMemory) → NotPrepared schema text why
-not_read schema text why (inl memory) only = subst (λ (w : Refusal). NotPrepared schema text w) (sym memory) a.no_memory
-not_read schema text why (inr syntax) only =
-    subst (λ (w : Refusal). NotPrepared schema text w) (sym syntax)
-    (a.no_text (λ pieces statement may. let differs : r.SyntaxError ≡ r.OutOfMemory = sym syntax ∙ only pieces statement may in cc))
+pub not_read : (schema : VSchema) (text : List ℕ) (why : Refusal) → (why ≡ r.OutOfMemory)
+    ⊎ ((why ≡ r.SyntaxError) × ((pieces : List (List ℕ)) (statement : Statement) (names : Names) → MayBeHeld schema text pieces statement names → ⊥))
+    → NotPrepared schema text why
+not_read schema text why (inl memory) = subst (λ (w : Refusal). NotPrepared schema text w) (sym memory) a.no_memory
+not_read schema text why (inr (syntax, none)) = subst (λ (w : Refusal). NotPrepared schema text w) (sym syntax) (a.no_text none)

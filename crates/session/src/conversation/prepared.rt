@@ -11,26 +11,28 @@ ghost use Rattle.vschema.specs.TypedStatement.{typed_statement};
 ghost use Rattle.resultset.specs.declared.SetEnd.{SetEnd};
 ghost use Rattle.resultset.specs.PreparedReplies.{prepare_encoded};
 ghost use Rattle.prepared_statements.specs.declared.held.Prepared.{Prepared};
-ghost use Rattle.prepared_statements.specs.Texts.{MayBePrepared};
+ghost use Rattle.client_words.specs.Aliases.{Names};
 ghost use Rattle.prepared_statements.specs.Held.{Places, held_at, ClosesHeld, DropsHeld, RunsHeld};
 ghost use Rattle.session.specs.conversation.Means.{Means, context_of};
 ghost use Rattle.session.specs.conversation.Packets.{reply_number};
 ghost use Rattle.session.specs.conversation.inner.Means.{LeadsKept};
 ghost use Rattle.session.specs.conversation.inner.Replies.{reply_bytes};
-ghost use Rattle.session.specs.conversation.Prepared.{names_unknown, is_select, ShowsTyped, ShowsColumns, NotPrepared, AnswersStatement};
+ghost use Rattle.session.specs.conversation.Prepared.{names_unknown, is_select, ShowsTyped, ShowsColumns, ShowsNamed, MayBeHeld, AnswersStatement};
 ghost use Rattle.session.specs.conversation.Talk.{AnswersPayload};
 
 use crate::conversation::columns::columns_of;
 use crate::conversation::connection_state::{ConnectionState, Phase, Settings};
+use crate::conversation::held_texts::{HeldText, read_held};
+use crate::conversation::named_columns::named_list;
 use crate::conversation::reply::{REPLY_ROOM, RowForm, put_pong, put_refusal};
 use crate::conversation::responder::{ReplyState, Responder};
 use bytes::BytesMut;
 use journal::Naming;
 use mysql_message::{StatementFault, put_fault};
-use prepared_statements::{Held, NotExecuted, NotHeld, PreparedText, read_prepared};
+use prepared_statements::{Held, NotExecuted, NotHeld};
 use resultset::{Chunks, Column as ResultColumn, SetEnd, encode_prepared_after};
 use route_engine::{Gate, ShardPass, World};
-use sql_tree::Statement;
+use sql_tree::{Name, Statement};
 use std::alloc::{AllocError, Global};
 use std::sync::Wait;
 use std::thread::Threads;
@@ -153,6 +155,23 @@ fn columns_shown<'e>(
     }
 }
 
+/// The columns of the rows that a statement gives, under the names that a client gives them.
+fn named_shown<'e>(
+    alloc: Global,
+    schema: &'e VSchema,
+    statement: Statement,
+    names: &[Option<Name>],
+) -> Result<Items<ResultColumn<'e>>, Refusal>
+    ensures shows { IfOk result (ShowsNamed schema.now statement names.now) }
+    ensures err { IfErr result (λ e. (e ≡ Refusal.OutOfMemory)
+        ⊎ ((typed_statement schema.now statement ≡ Err e) × ((is_select statement || names_unknown e) ≡ true))) }
+{
+    match columns_shown(alloc, schema, statement) {
+        Ok(columns) => Ok(named_list(alloc, names, columns)?),
+        Err(why) => Err(why),
+    }
+}
+
 /// How many holes a text of these pieces has.
 fn holes_of(pieces: &[Items<u8>]) -> usize
     ensures { result ≡ length pieces.now - 1 }
@@ -206,7 +225,7 @@ fn put_new(
     requires empty { reply.old.items ≡ [] }
     requires room { REPLY_ROOM ≤ reply.old.spare }
     requires holes { holes ≡ length pieces - 1 }
-    ensures answers { (schema : VSchema) (text : List ℕ) (statement : Statement) → MayBePrepared text pieces statement → ShowsColumns schema statement columns.now
+    ensures answers { (schema : VSchema) (text : List ℕ) (statement : Statement) (names : Names) → MayBeHeld schema text pieces statement names → ShowsNamed schema statement names columns.now
         → AnswersStatement schema end status number held (prepare text) (reply_bytes result.1 reply.new.items) result.0 }
     ensures room { REPLY_ROOM ≤ length reply.new.items + reply.new.spare }
 {
@@ -243,10 +262,16 @@ pub(crate) fn put_prepare(
     ensures answers { AnswersStatement schema.now end status number held (prepare text.now) (reply_bytes result.1 reply.new.items) result.0 }
     ensures room { REPLY_ROOM ≤ length reply.new.items + reply.new.spare }
 {
-    match read_prepared(alloc, text) {
-        Ok(PreparedText { pieces, statement }) => {
+    match read_held(alloc, schema, text) {
+        Ok(
+            HeldText {
+                pieces,
+                statement,
+                names,
+            },
+        ) => {
             let holes = holes_of(pieces.as_slice()) as u16;
-            match columns_shown(alloc, schema, statement) {
+            match named_shown(alloc, schema, statement, names.as_slice()) {
                 Ok(columns) => put_new(
                     alloc,
                     end,

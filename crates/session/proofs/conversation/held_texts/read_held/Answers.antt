@@ -1,0 +1,6 @@
+use Rattle.session.specs.conversation.Prepared as a
+use Rattle.session.proofs.conversation.HeldTexts.{not_plain}
+use Rattle.session.proofs.conversation.held_texts.read_held.Goals as goal
+
+pub returns-in-Ok-clause-found : goal.returns-in-Ok-clause-found
+returns-in-Ok-clause-found c = rw c.new.ensures (a.read c.in-Ok.ensures.found)
