@@ -1,4 +1,5 @@
 pub mod Texts
 pub mod Tokens
+pub mod Holes
 pub mod Held
 pub mod inner

@@ -1,13 +1,21 @@
--- What is kept of a statement from one time that it is executed to the next.
-use Rattle.std.specs.Prelude.{ℕ, List, Option, Some, None}
-use Rattle.statement_values.specs.declared.ParameterType.{ParameterType}
-use Rattle.prepared_statements.specs.declared.held.Prepared.{Prepared}
-use Rattle.prepared_statements.specs.Held.{Places, held_at, held_with}
+-- How the statements that are held are kept.
+use Rattle.std.specs.Prelude.{◌≡◌, ℕ, suc, ◌+◌, ◌≤◌, ◌<◌, ◌==◌, false, List, [], ◌∷◌, length, sum_by}
+use Rattle.prepared_statements.specs.declared.held.Numbered.{Numbered}
+use Rattle.prepared_statements.specs.Held.{max_statements, text_size, statement_long}
 
--- a statement, if there is one, with these types and this long data
-abbrev pub keeping : List ParameterType → List (Option (List ℕ)) → Option Prepared → Option Prepared
-keeping types long None = None
-keeping types long (Some q) = Some (record q { types = types; long = long })
+-- the first statement of a number, and where it is
+pub data IsFirst (n : ℕ) : List Numbered → ℕ → Numbered → Type 0 where
+  here : {s : Numbered} {more : List Numbered} → s.number ≡ n → IsFirst n (s ∷ more) 0 s
+  later : {t s : Numbered} {more : List Numbered} {k : ℕ} → t.number == n ≡ false → IsFirst n more k s → IsFirst n (t ∷ more) (suc k) s
 
-abbrev pub held_keeping : Places → ℕ → List ParameterType → List (Option (List ℕ)) → Places
-held_keeping places n types long = held_with places n (keeping types long (held_at places n))
+-- each number is greater than the one before, from above one to no more than another
+abbrev pub Grow : ℕ → List Numbered → ℕ → Type 0
+Grow low [] high = low ≤ high
+Grow low (s ∷ more) high = (low < s.number) × Grow s.number more high
+
+-- What is kept of statements: how much their texts count, how much long data they have, and the last number that was given.
+pub record AreKept (size long last : ℕ) (statements : List Numbered) : Type 0 where
+  pub few : length statements ≤ max_statements
+  pub sizes : size ≡ sum_by text_size statements
+  pub longs : long ≡ sum_by statement_long statements
+  pub grow : Grow 0 statements last
