@@ -1,5 +1,6 @@
 -- Conversations of documented examples: a ping and a quit, an order of packets that is wrong, a header that is too large, an empty
 -- payload; and the reply to BEGIN.
+use Rattle.prepared_statements.specs.Held.{none_held}
 use Rattle.std.proofs.Common.{◌≡◌, ℕ, List, [], ◌∷◌, refl, lit<, lit≤, inl, Some, None}
 use Rattle.std.specs.Prelude.{codes, is_some, true, false}
 use Rattle.mysql_packet.specs.declared.framer.Payload.{Payload}
@@ -36,21 +37,21 @@ payload number bytes = record { first = number; last = number; bytes = bytes }
 nothing_left : IsPartial 1048576 []
 nothing_left = (0, [], [], lit< tt, (tt, lit≤ tt), refl, inl (lit< tt))
 
-ping_then_quit : (v : VSchema) → Talk 1048576 (plain v) Never (At (Commands as_let_in [])) tt (1 ∷ 0 ∷ 0 ∷ 0 ∷ 0x0E ∷ 1 ∷ 0 ∷ 0 ∷ 0 ∷ 1 ∷ []) (7 ∷ 0 ∷ 0 ∷ 1 ∷ 0 ∷ 0 ∷ 0 ∷ 2 ∷ 0 ∷ 0 ∷ 0 ∷ []) Quit tt
+ping_then_quit : (v : VSchema) → Talk 1048576 (plain v) Never (At (Commands as_let_in none_held)) tt (1 ∷ 0 ∷ 0 ∷ 0 ∷ 0x0E ∷ 1 ∷ 0 ∷ 0 ∷ 0 ∷ 1 ∷ []) (7 ∷ 0 ∷ 0 ∷ 1 ∷ 0 ∷ 0 ∷ 0 ∷ 2 ∷ 0 ∷ 0 ∷ 0 ∷ []) Quit tt
 ping_then_quit v =
     t.ended (payload 0 (0x0E ∷ []) ∷ payload 0 (1 ∷ []) ∷ []) []
     (record { whole = refl; each = (((lit< tt, refl), lit≤ tt), (((lit< tt, refl), lit≤ tt), tt)); partial = nothing_left })
     (t.begun t.goes_on (t.goes (t.pinged refl refl) (t.ends (t.quits refl refl))))
 
 -- a command whose first number is 1
-wrong_number : (v : VSchema) → Talk 1048576 (plain v) Never (At (Commands as_let_in [])) tt (1 ∷ 0 ∷ 0 ∷ 1 ∷ 0x0E ∷ [])
+wrong_number : (v : VSchema) → Talk 1048576 (plain v) Never (At (Commands as_let_in none_held)) tt (1 ∷ 0 ∷ 0 ∷ 1 ∷ 0x0E ∷ [])
     (0x1D ∷ 0 ∷ 0 ∷ 2 ∷ 0xFF ∷ 0x84 ∷ 0x04 ∷ 0x23 ∷ 0x30 ∷ 0x38 ∷ 0x53 ∷ 0x30 ∷ 0x31 ∷ codes "packets out of order") Broken tt
 wrong_number v =
     t.ended (payload 1 (0x0E ∷ []) ∷ []) []
     (record { whole = refl; each = (((lit< tt, refl), lit≤ tt), tt); partial = nothing_left }) (t.begun t.goes_on (t.ends (t.out_of_order refl)))
 
 -- a first header that tells 2 ^ 20 + 1 bytes
-too_large : (v : VSchema) → Talk 1048576 (plain v) Never (At (Commands as_let_in [])) tt (1 ∷ 0 ∷ 0x10 ∷ 0 ∷ [])
+too_large : (v : VSchema) → Talk 1048576 (plain v) Never (At (Commands as_let_in none_held)) tt (1 ∷ 0 ∷ 0x10 ∷ 0 ∷ [])
     (0x19 ∷ 0 ∷ 0 ∷ 1 ∷ 0xFF ∷ 0x81 ∷ 0x04 ∷ 0x23 ∷ 0x30 ∷ 0x38 ∷ 0x53 ∷ 0x30 ∷ 0x31 ∷ codes "packet too large") Broken tt
 too_large v =
     let fault : HeaderFault = record { refusal = PacketTooLarge; number = 0 } in
@@ -69,7 +70,7 @@ too_large v =
     (t.begun t.goes_on t.none)
 
 -- an empty payload is an unknown command, and the session goes on
-unknown : (v : VSchema) → Talk 1048576 (plain v) Never (At (Commands as_let_in [])) tt (0 ∷ 0 ∷ 0 ∷ 0 ∷ [])
+unknown : (v : VSchema) → Talk 1048576 (plain v) Never (At (Commands as_let_in none_held)) tt (0 ∷ 0 ∷ 0 ∷ 0 ∷ [])
     (0x18 ∷ 0 ∷ 0 ∷ 1 ∷ 0xFF ∷ 0x17 ∷ 0x04 ∷ 0x23 ∷ 0x30 ∷ 0x38 ∷ 0x53 ∷ 0x30 ∷ 0x31 ∷ codes "unknown command") Closed tt
 unknown v =
     t.closed (payload 0 [] ∷ []) refl
@@ -80,7 +81,7 @@ begins : (t : Transaction) → encoded EofPackets (Count 0) 1 (status_flags true
 begins t = refl
 
 -- COM_RESET_CONNECTION: nothing is open then, and each statement commits by itself again
-resets : (v : VSchema) → Talk 1048576 (plain v) Never (At (Commands (record as_let_in { autocommit = false }) [])) tt (1 ∷ 0 ∷ 0 ∷ 0 ∷ 0x1F ∷ []) (7 ∷ 0 ∷ 0 ∷ 1 ∷ 0 ∷ 0 ∷ 0 ∷ 2 ∷ 0 ∷ 0 ∷ 0 ∷ []) Closed tt
+resets : (v : VSchema) → Talk 1048576 (plain v) Never (At (Commands (record as_let_in { autocommit = false }) none_held)) tt (1 ∷ 0 ∷ 0 ∷ 0 ∷ 0x1F ∷ []) (7 ∷ 0 ∷ 0 ∷ 1 ∷ 0 ∷ 0 ∷ 0 ∷ 2 ∷ 0 ∷ 0 ∷ 0 ∷ []) Closed tt
 resets v =
     t.closed (payload 0 (0x1F ∷ []) ∷ []) refl
     (record { whole = refl; each = (((lit< tt, refl), lit≤ tt), tt); partial = nothing_left }) (t.begun t.goes_on (t.goes (t.reset_all refl refl) t.none))

@@ -272,6 +272,7 @@ impl<W: World, J: Naming> Core<W, J> {
     ghost use Rattle.session.specs.conversation.ConnectionStates.{HasGreeted, end_of, settings_at_first};
     ghost use Rattle.session.specs.conversation.Talk.{Talk};
     ghost use Rattle.session.specs.conversation.Sessions.{HasTalked};
+    ghost use Rattle.prepared_statements.specs.Held.{none_held};
 
     /// A session that is new: of the connection with this id. It greets its client by the salt, and lets in whom `access` names.
     /// Makes room for the greeting and for a refusal, and refuses only if it can't.
@@ -317,8 +318,8 @@ impl<W: World, J: Naming> Core<W, J> {
     pub fn commands(alloc: Global, id: u32, capabilities: u32) -> Result<Core<W, J>, AllocError>
         // Nothing has been read or written.
         ensures begins { IfOk result (λ core. (o : Opening) (l : Limits) (s : PassAndTransaction)
-            → HasTalked (context_of o core.handshake) (Means o l) (ConnectionState.At (Phase.Commands (settings_at_first capabilities None) [])) core s [] [] s) }
-        ensures connection_state { IfOk result (λ core. core.connection_state ≡ ConnectionState.At (Phase.Commands (settings_at_first capabilities None) [])) }
+            → HasTalked (context_of o core.handshake) (Means o l) (ConnectionState.At (Phase.Commands (settings_at_first capabilities None) none_held)) core s [] [] s) }
+        ensures connection_state { IfOk result (λ core. core.connection_state ≡ ConnectionState.At (Phase.Commands (settings_at_first capabilities None) none_held)) }
         ensures limit { IfOk result (λ core. core.framing.limit ≡ COMMAND_LIMIT) }
         ensures none_open { IfOk result (λ core. core.tx ≡ None) }
         ensures id { IfOk result (λ core. core.handshake.id ≡ id) }

@@ -1,4 +1,5 @@
 -- What is written in the connection phase.
+use Rattle.prepared_statements.specs.Held.{none_held}
 use Rattle.std.proofs.Common.{◌≡◌, ◌&&◌, ℕ, Bool, true, false, List, [], ◌∷◌, Some, None, refl, sym, subst, eq-eqb}
 use Rattle.std.specs.Prelude.{Result, Err, IsOkAnd, is_some}
 use Rattle.vt_value.specs.declared.refusal.Refusal.TheVariants.{AccessDenied, UnknownKeyspace, BadHandshake}
@@ -48,8 +49,8 @@ module _ (status number : ℕ) (login : PendingLogin) (right : Bool) (out : List
   is_unknown is none e = subst (λ (bs : List ℕ). Admits status number login right bs (Ended Denied)) (sym e) (l.unknown is none)
 
   pub is_admitted : (login.is_user && right) ≡ true → login.is_database ≡ true → out ≡ frame number (ok_payload 0 status)
-      → Admits status number login right out (At (Commands (settings_at_first login.capabilities login.keyspace) []))
-  is_admitted is known e = subst (λ (bs : List ℕ). Admits status number login right bs (At (Commands (settings_at_first login.capabilities login.keyspace) []))) (sym e) (l.admitted is known)
+      → Admits status number login right out (At (Commands (settings_at_first login.capabilities login.keyspace) none_held))
+  is_admitted is known e = subst (λ (bs : List ℕ). Admits status number login right bs (At (Commands (settings_at_first login.capabilities login.keyspace) none_held))) (sym e) (l.admitted is known)
 
 module _ (handshake : Handshake) (keyspaces : List Keyspace) (status : ℕ) (p : Payload) (out : List ℕ) where
   pub not_read : {A E : Type 0} (f : A → Answered) (r : Result A E) (e : E) → r ≡ Err e → p.first ≡ 1

@@ -7,7 +7,7 @@ use Rattle.mysql_packet.specs.declared.framer.Payload.{Payload}
 use Rattle.mysql_packet.specs.Frames.{frame}
 use Rattle.mysql_message.specs.Messages.{Request, execute, quit, init_db, query, ping, statistics, multi_statements, reset, command_of, ok_payload, err_payload, statistics_payload}
 use Rattle.resultset.specs.BinaryRows.{binary_encoded}
-use Rattle.prepared_statements.specs.Held.{Places, RunsHeld}
+use Rattle.prepared_statements.specs.Held.{none_held, HeldStatements, RunsHeld}
 use Rattle.session.specs.conversation.Prepared.{AnswersStatement}
 use Rattle.session.specs.declared.conversation.reply.RowForm.{RowForm}
 use Rattle.session.specs.conversation.inner.Replies.{encoded_in, TellsOutcome}
@@ -72,7 +72,7 @@ logs_in_goes handshake keyspaces status _ p _ _ (l.answers {out} {connection_sta
     admits_goes status (reply_number p) login (is_right handshake.access.stage2 handshake.salt p.bytes) out connection_state a is
 
 module _ {S : Type 0} (context : SessionContext S) (May : S → List ℕ → Outcome → S → Type 0) where
-  module _ (set : Settings) (held : Places) where
+  module _ (set : Settings) (held : HeldStatements) where
     -- a payload whose reply is these bytes, after which the session stands so
     abbrev Goes : S → Payload → List ℕ → ConnectionState → S → Type 0
     Goes s p out connection_state now = AnswersPayload context May (Commands set held) s p out connection_state now
@@ -109,7 +109,7 @@ module _ {S : Type 0} (context : SessionContext S) (May : S → List ℕ → Out
 
     pub one_reset : (s : S) (p : Payload) (out : List ℕ) → p.first ≡ 0 → command_of p.bytes ≡ Some reset
         → out ≡ frame (reply_number p) (ok_payload 0 (status_flags true false))
-        → Goes s p out (At (Commands (settings_at_first set.capabilities set.keyspace) [])) (context.dropped s)
+        → Goes s p out (At (Commands (settings_at_first set.capabilities set.keyspace) none_held)) (context.dropped s)
     one_reset s p out first is e = as_bytes s (context.dropped s) p out _ _ e (t.reset_all (eq-eqb p.first 0 first) is)
 
     pub one_selected : (s : S) (p : Payload) (out name : List ℕ) (connection_state : ConnectionState) → p.first ≡ 0 → command_of p.bytes ≡ Some (init_db name)
@@ -132,13 +132,13 @@ module _ {S : Type 0} (context : SessionContext S) (May : S → List ℕ → Out
         → Goes s p out (At (Commands then held)) now
     one_query then s now p out text outcome first is gives e = as_bytes s now p out _ _ e (t.queried text outcome (eq-eqb p.first 0 first) is gives)
 
-    pub one_execution : (after : Settings) (then : Places) (s now : S) (p : Payload) (out bytes text : List ℕ) (outcome : Outcome) → p.first ≡ 0
+    pub one_execution : (after : Settings) (then : HeldStatements) (s now : S) (p : Payload) (out bytes text : List ℕ) (outcome : Outcome) → p.first ≡ 0
         → command_of p.bytes ≡ Some (execute bytes) → RunsHeld held bytes text then → GivesText context May set s text outcome after now
         → out ≡ binary_encoded (set_end_of set.capabilities) outcome (reply_number p) (status_in context after now) → Goes s p out (At (Commands after then)) now
     one_execution after then s now p out bytes text outcome first is runs gives e =
         as_bytes s now p out _ _ e (t.executed bytes text outcome (eq-eqb p.first 0 first) is runs gives)
 
-    pub one_statement_reply : (then : Places) (s : S) (p : Payload) (out : List ℕ) (request : Request) → p.first ≡ 0 → command_of p.bytes ≡ Some request
+    pub one_statement_reply : (then : HeldStatements) (s : S) (p : Payload) (out : List ℕ) (request : Request) → p.first ≡ 0 → command_of p.bytes ≡ Some request
         → AnswersStatement context.schema (set_end_of set.capabilities) (status_in context set s) (reply_number p) held request out then
         → Goes s p out (At (Commands set then)) s
     one_statement_reply then s p out request first is answers = t.of_statement request (eq-eqb p.first 0 first) is answers
@@ -317,17 +317,17 @@ pub none_stands : (o : Opening) (p : PassView Entry) (then : Option OpenView) �
 none_stands o p then none = (None, subst (λ (x : Option OpenView). Represents o p x None) (sym none) stands.closed)
 
 -- COM_RESET_CONNECTION, whatever was kept
-pub reset_kept : (o : Opening) (l : Limits) (handshake : Handshake) (set anew : Settings) (held_then none_then : Places) (p : PassView Entry) (kept then : Option OpenView) (payload : Payload) (out : List ℕ)
+pub reset_kept : (o : Opening) (l : Limits) (handshake : Handshake) (set anew : Settings) (held_then none_then : HeldStatements) (p : PassView Entry) (kept then : Option OpenView) (payload : Payload) (out : List ℕ)
     (status : ℕ) → payload.first ≡ 0 → command_of payload.bytes ≡ Some reset → then ≡ None → status ≡ status_flags true false
-    → anew ≡ settings_at_first set.capabilities set.keyspace → none_then ≡ [] → out ≡ frame (reply_number payload) (ok_payload 0 status)
+    → anew ≡ settings_at_first set.capabilities set.keyspace → none_then ≡ none_held → out ≡ frame (reply_number payload) (ok_payload 0 status)
     → LeadsKept o p kept p then (λ s now. AnswersPayload (context_of o handshake) (Means o l) (Commands set held_then) s payload out (At (Commands anew none_then)) now)
 reset_kept o l handshake set anew held_then none_then p kept then payload out status first is none flags begins empty written = λ s held.
     let e : out ≡ frame (reply_number payload) (ok_payload 0 (status_flags true false)) =
     written ∙ ap (λ (n : ℕ). frame (reply_number payload) (ok_payload 0 n)) flags in (
       none_open s.pass,
       (held.0, subst (λ (x : Option OpenView). Represents o p x None) (sym none) stands.closed),
-      subst (λ (x : Places). AnswersPayload (context_of o handshake) (Means o l) (Commands set held_then) s payload out (At (Commands anew x)) (none_open s.pass)) (sym empty)
-          (subst (λ (x : Settings). AnswersPayload (context_of o handshake) (Means o l) (Commands set held_then) s payload out (At (Commands x [])) (none_open s.pass)) (sym begins)
+      subst (λ (x : HeldStatements). AnswersPayload (context_of o handshake) (Means o l) (Commands set held_then) s payload out (At (Commands anew x)) (none_open s.pass)) (sym empty)
+          (subst (λ (x : Settings). AnswersPayload (context_of o handshake) (Means o l) (Commands set held_then) s payload out (At (Commands x none_held)) (none_open s.pass)) (sym begins)
           (one_reset (context_of o handshake) (Means o l) set held_then s payload out first is e)),
     )
 
@@ -374,7 +374,7 @@ one_text_or_refusal o l handshake set after form p q kept then number out text o
         goes s now (Refused OutOfMemory) (unshown_text o l handshake set after s now text outcome gives rows) (e ∙ ap (λ (b : Bool). Encoded (Refused OutOfMemory) b) same)
 
 -- the answer to a command of prepared statements that runs none
-pub statement_kept : (o : Opening) (l : Limits) (handshake : Handshake) (schema : VSchema) (set : Settings) (held_now held_then : Places) (p : PassView Entry) (kept : Option OpenView)
+pub statement_kept : (o : Opening) (l : Limits) (handshake : Handshake) (schema : VSchema) (set : Settings) (held_now held_then : HeldStatements) (p : PassView Entry) (kept : Option OpenView)
     (payload : Payload) (status : ℕ) (out : List ℕ) (request : Request) (connection_state : ConnectionState) → payload.first ≡ 0 → command_of payload.bytes ≡ Some request
     → schema ≡ o.schema → status ≡ status_flags set.autocommit (is_some kept) → connection_state ≡ At (Commands set held_then)
     → AnswersStatement schema (set_end_of set.capabilities) status (reply_number payload) held_now request out held_then

@@ -15,7 +15,8 @@ use Rattle.resultset.specs.PreparedReplies.{prepare_encoded}
 use Rattle.prepared_statements.specs.declared.held.NotExecuted.{NotExecuted}
 use Rattle.prepared_statements.specs.declared.held.NotExecuted.TheVariants as x
 use Rattle.client_words.specs.Aliases.{Names}
-use Rattle.prepared_statements.specs.Held.{Places, AddsHeld, newly_prepared, no_values}
+use Rattle.prepared_statements.specs.Holes.{no_values}
+use Rattle.prepared_statements.specs.Held.{HeldStatements, AddsHeld, newly_prepared}
 use Rattle.shard_run.specs.Runs.{Opening}
 use Rattle.route_engine.specs.Limits.{Limits}
 use Rattle.session.specs.declared.conversation.access.Handshake.{Handshake}
@@ -37,7 +38,7 @@ pub wrong_is : (w : NotExecuted) → w ≡ x.Wrong → w ≡ x.OutOfMemory → �
 wrong_is w e f = let differs : x.Wrong ≡ x.OutOfMemory = sym e ∙ f in cc
 
 -- a statement that is held, as it is told
-pub told : (schema : VSchema) (end : SetEnd) (status number : ℕ) (held then : Places) (text : List ℕ) (pieces : List (List ℕ)) (statement : Statement) (names : Names)
+pub told : (schema : VSchema) (end : SetEnd) (status number : ℕ) (held then : HeldStatements) (text : List ℕ) (pieces : List (List ℕ)) (statement : Statement) (names : Names)
     (columns : List R.Column) (n holes : ℕ) (out : List ℕ) → holes ≡ length pieces - 1 → MayBeHeld schema text pieces statement names → ShowsNamed schema statement names columns
     → AddsHeld held (newly_prepared pieces (no_values pieces)) n then
     → (out ≡ prepare_encoded end n columns holes number status) ⊎ (out ≡ frame number (err_payload r.OutOfMemory))
@@ -48,16 +49,15 @@ told schema end status number held then text pieces statement names columns n ho
 told schema end status number held then text pieces statement names columns n holes out is may shows adds (inr e) =
     subst (λ (bs : List ℕ). AnswersStatement schema end status number held (prepare text) bs then) (sym e) (a.untold may adds)
 
--- what isn't executed leaves all as it is
-pub not_run : (o : Opening) (l : Limits) (handshake : Handshake) (set : Settings) (held then : Places) (number : ℕ) (bytes out : List ℕ) (s : PassAndTransaction) (payload : Payload)
-    → payload.first ≡ 0 → number ≡ reply_number payload → command_of payload.bytes ≡ Some (execute bytes) → then ≡ held
-    → ((schema : VSchema) (end : SetEnd) (status : ℕ) → AnswersStatement schema end status number held (execute bytes) out held)
+-- what isn't executed is told, and changes nothing but what is held
+pub not_run : (o : Opening) (l : Limits) (handshake : Handshake) (set : Settings) (held then : HeldStatements) (number : ℕ) (bytes out : List ℕ) (s : PassAndTransaction)
+    (payload : Payload) → payload.first ≡ 0 → number ≡ reply_number payload → command_of payload.bytes ≡ Some (execute bytes)
+    → ((schema : VSchema) (end : SetEnd) (status : ℕ) → AnswersStatement schema end status number held (execute bytes) out then)
     → AnswersPayload (context_of o handshake) (Means o l) (Commands set held) s payload out (At (Commands set then)) s
-not_run o l handshake set held then number bytes out s payload first is_number is same answers =
-    subst (λ (h : Places). AnswersPayload (context_of o handshake) (Means o l) (Commands set held) s payload out (At (Commands set h)) s) (sym same)
-    (one_statement_reply (context_of o handshake) (Means o l) set held held s payload out (execute bytes) first is
-    (subst (λ (n : ℕ). AnswersStatement o.schema (set_end_of set.capabilities) (status_in (context_of o handshake) set s) n held (execute bytes) out held) is_number
-    (answers o.schema (set_end_of set.capabilities) (status_in (context_of o handshake) set s))))
+not_run o l handshake set held then number bytes out s payload first is_number is answers =
+    one_statement_reply (context_of o handshake) (Means o l) set held then s payload out (execute bytes) first is
+    (subst (λ (n : ℕ). AnswersStatement o.schema (set_end_of set.capabilities) (status_in (context_of o handshake) set s) n held (execute bytes) out then) is_number
+    (answers o.schema (set_end_of set.capabilities) (status_in (context_of o handshake) set s)))
 
 pub unsure_is : (schema : VSchema) (statement : Statement) (why : Refusal) (selects : Bool) (columns : List R.Column)
     → (why ≡ r.OutOfMemory) ⊎ (typed_statement schema statement ≡ Err why) → selects ≡ is_select statement

@@ -1,4 +1,5 @@
 -- The connection phase: whom a server lets in, and what it writes for the client's response.
+use Rattle.prepared_statements.specs.Held.{none_held}
 use Rattle.std.specs.Prelude.{◌≡◌, ◌==◌, ◌&&◌, not, ℕ, Bool, true, false, List, [], ◌∷◌, Option, Some, None, bytes_eq, bit_and, is_some, position}
 use Rattle.vt_value.specs.declared.refusal.Refusal.TheVariants.{AccessDenied, UnknownKeyspace, BadHandshake}
 use Rattle.vschema.specs.declared.schema.Keyspace.{Keyspace}
@@ -53,7 +54,7 @@ pub data Admits (status number : ℕ) (login : PendingLogin) (right : Bool) : Li
   unknown : (login.is_user && right) ≡ true → login.is_database ≡ false
       → Admits status number login right (frame number (err_payload UnknownKeyspace)) (Ended Denied)
   admitted : (login.is_user && right) ≡ true → login.is_database ≡ true
-      → Admits status number login right (frame number (ok_payload 0 status)) (At (Commands (settings_at_first login.capabilities login.keyspace) []))
+      → Admits status number login right (frame number (ok_payload 0 status)) (At (Commands (settings_at_first login.capabilities login.keyspace) none_held))
 
 -- What is written for a payload of the connection phase: the client's response to the greeting, which is numbered 1, and, if that came
 -- by another plugin, its answer to the request to switch, numbered 3.

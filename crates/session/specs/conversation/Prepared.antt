@@ -19,7 +19,8 @@ use Rattle.resultset.specs.declared.Column as R
 use Rattle.resultset.specs.declared.SetEnd.{SetEnd}
 use Rattle.resultset.specs.PreparedReplies.{prepare_encoded}
 use Rattle.prepared_statements.specs.declared.held.Prepared.{Prepared}
-use Rattle.prepared_statements.specs.Held.{Places, IsFull, held_at, newly_prepared, no_values, AddsHeld, RunsHeld, ClosesHeld, DropsHeld, ResetsHeld}
+use Rattle.prepared_statements.specs.Holes.{no_values}
+use Rattle.prepared_statements.specs.Held.{HeldStatements, IsFull, held_at, newly_prepared, AddsHeld, RunsHeld, UsesHeld, WasTooLarge, ClosesHeld, LongHeld, ResetsHeld}
 use Rattle.prepared_statements.specs.Texts.{pieces_of, TriedText, MayBePrepared}
 use Rattle.client_words.specs.Aliases.{Names}
 use Rattle.client_words.specs.Sayings.{IsSaidAs}
@@ -81,30 +82,33 @@ pub data NotPrepared (schema : VSchema) (text : List ℕ) : Refusal → Type 0 w
       → typed_statement schema statement ≡ Err why → (is_select statement || names_unknown why) ≡ true → NotPrepared schema text why
 
 -- What answers a command of prepared statements that runs none, and what is held then. Parts and replies end as `end` says, under this status, from
--- this sequence number on. If there is no memory to tell of a statement, that is told. Long data isn't taken: its statement is given up.
-pub data AnswersStatement (schema : VSchema) (end : SetEnd) (status number : ℕ) (held : Places) : Request → List ℕ → Places → Type 0 where
-  prepared : {text : List ℕ} {pieces : List (List ℕ)} {statement : Statement} {names : Names} {columns : List R.Column} {n : ℕ} {then : Places}
+-- this sequence number on. If there is no memory to tell of a statement, that is told. An execution that is refused uses the long data that came for it.
+pub data AnswersStatement (schema : VSchema) (end : SetEnd) (status number : ℕ) (held : HeldStatements) : Request → List ℕ → HeldStatements → Type 0 where
+  prepared : {text : List ℕ} {pieces : List (List ℕ)} {statement : Statement} {names : Names} {columns : List R.Column} {n : ℕ} {then : HeldStatements}
       → MayBeHeld schema text pieces statement names → ShowsNamed schema statement names columns → AddsHeld held (newly_prepared pieces (no_values pieces)) n then
       → AnswersStatement schema end status number held (prepare text) (prepare_encoded end n columns (length pieces - 1) number status) then
-  untold : {text : List ℕ} {pieces : List (List ℕ)} {statement : Statement} {names : Names} {n : ℕ} {then : Places} → MayBeHeld schema text pieces statement names
+  untold : {text : List ℕ} {pieces : List (List ℕ)} {statement : Statement} {names : Names} {n : ℕ} {then : HeldStatements} → MayBeHeld schema text pieces statement names
       → AddsHeld held (newly_prepared pieces (no_values pieces)) n then
       → AnswersStatement schema end status number held (prepare text) (frame number (err_payload r.OutOfMemory)) then
   not_prepared : {text : List ℕ} {why : Refusal} → NotPrepared schema text why
       → AnswersStatement schema end status number held (prepare text) (frame number (err_payload why)) held
   too_many : {text : List ℕ} {pieces : List (List ℕ)} {statement : Statement} {names : Names} → MayBeHeld schema text pieces statement names → IsFull held pieces
       → AnswersStatement schema end status number held (prepare text) (frame number (fault_payload TooManyStatements)) held
-  unknown : {bytes : List ℕ} → ((n : ℕ) (rest : List ℕ) (q : Prepared) → n < 2 ^ 32 → bytes ≡ little_endian 4 n ++ rest → held_at held n ≡ Some q → ⊥)
-      → AnswersStatement schema end status number held (execute bytes) (frame number (fault_payload UnknownStatement)) held
-  wrong : {bytes : List ℕ} → ((text : List ℕ) (then : Places) → RunsHeld held bytes text then → ⊥)
-      → AnswersStatement schema end status number held (execute bytes) (frame number (fault_payload WrongArguments)) held
-  not_supported : {bytes : List ℕ} → ((text : List ℕ) (then : Places) → RunsHeld held bytes text then → ⊥)
-      → AnswersStatement schema end status number held (execute bytes) (frame number (err_payload r.NotSupported)) held
-  no_memory : {bytes : List ℕ} → AnswersStatement schema end status number held (execute bytes) (frame number (err_payload r.OutOfMemory)) held
-  closed : {bytes : List ℕ} {then : Places} → ClosesHeld held bytes then → AnswersStatement schema end status number held (close bytes) [] then
-  dropped : {bytes : List ℕ} {then : Places} → DropsHeld held bytes then → AnswersStatement schema end status number held (long_data bytes) [] then
-  reset : {bytes : List ℕ} {then : Places} → ResetsHeld held bytes then
+  unknown : {bytes : List ℕ} {then : HeldStatements} → UsesHeld held bytes then
+      → ((n : ℕ) (rest : List ℕ) (q : Prepared) → n < 2 ^ 32 → bytes ≡ little_endian 4 n ++ rest → held_at held n ≡ Some q → ⊥)
+      → AnswersStatement schema end status number held (execute bytes) (frame number (fault_payload UnknownStatement)) then
+  wrong : {bytes : List ℕ} {then : HeldStatements} → UsesHeld held bytes then → ((text : List ℕ) (after : HeldStatements) → RunsHeld held bytes text after → ⊥)
+      → AnswersStatement schema end status number held (execute bytes) (frame number (fault_payload WrongArguments)) then
+  not_supported : {bytes : List ℕ} {then : HeldStatements} → UsesHeld held bytes then → ((text : List ℕ) (after : HeldStatements) → RunsHeld held bytes text after → ⊥)
+      → AnswersStatement schema end status number held (execute bytes) (frame number (err_payload r.NotSupported)) then
+  too_long : {bytes : List ℕ} {then : HeldStatements} → UsesHeld held bytes then → WasTooLarge held bytes
+      → AnswersStatement schema end status number held (execute bytes) (frame number (err_payload r.PacketTooLarge)) then
+  no_memory : {bytes : List ℕ} {then : HeldStatements} → UsesHeld held bytes then
+      → AnswersStatement schema end status number held (execute bytes) (frame number (err_payload r.OutOfMemory)) then
+  closed : {bytes : List ℕ} {then : HeldStatements} → ClosesHeld held bytes then → AnswersStatement schema end status number held (close bytes) [] then
+  takes_long : {bytes : List ℕ} {then : HeldStatements} → LongHeld held bytes then → AnswersStatement schema end status number held (long_data bytes) [] then
+  reset : {bytes : List ℕ} {then : HeldStatements} → ResetsHeld held bytes then
       → AnswersStatement schema end status number held (reset_statement bytes) (frame number (ok_payload 0 status)) then
-  not_reset : {bytes : List ℕ} → ((then : Places) → ResetsHeld held bytes then → ⊥)
+  not_reset : {bytes : List ℕ} → ((then : HeldStatements) → ResetsHeld held bytes then → ⊥)
       → AnswersStatement schema end status number held (reset_statement bytes) (frame number (fault_payload UnknownStatement)) held
-  no_memory_to_reset : {bytes : List ℕ} → AnswersStatement schema end status number held (reset_statement bytes) (frame number (err_payload r.OutOfMemory)) held
   fetched : AnswersStatement schema end status number held fetch (frame number (err_payload r.NotSupported)) held

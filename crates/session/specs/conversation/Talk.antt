@@ -22,7 +22,7 @@ use Rattle.session.specs.conversation.ConnectionStates.{first_number, takes_comm
 use Rattle.session.specs.conversation.Packets.{refusal_bytes, reply_number}
 pub use Rattle.session.specs.conversation.SessionContext.{SessionContext, in_transaction, status_flags, status_in}
 use Rattle.resultset.specs.BinaryRows.{binary_encoded}
-use Rattle.prepared_statements.specs.Held.{Places, RunsHeld}
+use Rattle.prepared_statements.specs.Held.{HeldStatements, none_held, RunsHeld}
 use Rattle.session.specs.conversation.GivesText.{GivesText}
 use Rattle.session.specs.conversation.Prepared.{AnswersStatement}
 use Rattle.session.specs.conversation.Logins.{LogsIn, keyspace_named}
@@ -47,35 +47,35 @@ module _ {S : Type 0} (context : SessionContext S) (May : S → List ℕ → Out
         → AnswersPayload at s p (refusal_bytes p.first PacketsOutOfOrder) (Ended Broken) s
     logs_in : {at : Phase} {s : S} {p : Payload} {out : List ℕ} {connection_state : ConnectionState} → LogsIn context.handshake context.schema.keyspaces (status_flags true (context.is_open s)) at p out connection_state
         → AnswersPayload at s p out connection_state s
-    quits : {set : Settings} {held : Places} {s : S} {p : Payload} → p.first == 0 ≡ true → command_of p.bytes ≡ Some quit
+    quits : {set : Settings} {held : HeldStatements} {s : S} {p : Payload} → p.first == 0 ≡ true → command_of p.bytes ≡ Some quit
         → AnswersPayload (Commands set held) s p [] (Ended Quit) s
-    unknown : {set : Settings} {held : Places} {s : S} {p : Payload} → p.first == 0 ≡ true → command_of p.bytes ≡ None
+    unknown : {set : Settings} {held : HeldStatements} {s : S} {p : Payload} → p.first == 0 ≡ true → command_of p.bytes ≡ None
         → AnswersPayload (Commands set held) s p (frame (reply_number p) (err_payload UnknownCommand)) (At (Commands set held)) s
-    pinged : {set : Settings} {held : Places} {s : S} {p : Payload} → p.first == 0 ≡ true → command_of p.bytes ≡ Some ping
+    pinged : {set : Settings} {held : HeldStatements} {s : S} {p : Payload} → p.first == 0 ≡ true → command_of p.bytes ≡ Some ping
         → AnswersPayload (Commands set held) s p (frame (reply_number p) (ok_payload 0 (status_in context set s))) (At (Commands set held)) s
-    selected : {set : Settings} {held : Places} {s : S} {p : Payload} (name : List ℕ) (ordinal : ℕ) → p.first == 0 ≡ true → command_of p.bytes ≡ Some (init_db name)
+    selected : {set : Settings} {held : HeldStatements} {s : S} {p : Payload} (name : List ℕ) (ordinal : ℕ) → p.first == 0 ≡ true → command_of p.bytes ≡ Some (init_db name)
         → keyspace_named context.schema.keyspaces name ≡ Some ordinal
         → AnswersPayload (Commands set held) s p (frame (reply_number p) (ok_payload 0 (status_in context set s))) (At (Commands (record set { keyspace = Some ordinal }) held)) s
-    unknown_keyspace : {set : Settings} {held : Places} {s : S} {p : Payload} (name : List ℕ) → p.first == 0 ≡ true → command_of p.bytes ≡ Some (init_db name)
+    unknown_keyspace : {set : Settings} {held : HeldStatements} {s : S} {p : Payload} (name : List ℕ) → p.first == 0 ≡ true → command_of p.bytes ≡ Some (init_db name)
         → keyspace_named context.schema.keyspaces name ≡ None
         → AnswersPayload (Commands set held) s p (frame (reply_number p) (err_payload UnknownKeyspace)) (At (Commands set held)) s
-    queried : {set after : Settings} {held : Places} {s now : S} {p : Payload} (text : List ℕ) (outcome : Outcome)
+    queried : {set after : Settings} {held : HeldStatements} {s now : S} {p : Payload} (text : List ℕ) (outcome : Outcome)
         → p.first == 0 ≡ true → command_of p.bytes ≡ Some (query text) → GivesText context May set s text outcome after now
         → AnswersPayload (Commands set held) s p (encoded (set_end_of set.capabilities) outcome (reply_number p) (status_in context after now)) (At (Commands after held)) now
-    told_statistics : {set : Settings} {held : Places} {s : S} {p : Payload} → p.first == 0 ≡ true → command_of p.bytes ≡ Some statistics
+    told_statistics : {set : Settings} {held : HeldStatements} {s : S} {p : Payload} → p.first == 0 ≡ true → command_of p.bytes ≡ Some statistics
         → AnswersPayload (Commands set held) s p (frame (reply_number p) statistics_payload) (At (Commands set held)) s
-    takes_one_statement : {set : Settings} {held : Places} {s : S} {p : Payload} → p.first == 0 ≡ true → command_of p.bytes ≡ Some (multi_statements false)
+    takes_one_statement : {set : Settings} {held : HeldStatements} {s : S} {p : Payload} → p.first == 0 ≡ true → command_of p.bytes ≡ Some (multi_statements false)
         → AnswersPayload (Commands set held) s p (frame (reply_number p) (after_rows (set_end_of set.capabilities) (status_in context set s))) (At (Commands set held)) s
-    takes_no_more : {set : Settings} {held : Places} {s : S} {p : Payload} → p.first == 0 ≡ true → command_of p.bytes ≡ Some (multi_statements true)
+    takes_no_more : {set : Settings} {held : HeldStatements} {s : S} {p : Payload} → p.first == 0 ≡ true → command_of p.bytes ≡ Some (multi_statements true)
         → AnswersPayload (Commands set held) s p (frame (reply_number p) (err_payload NotSupported)) (At (Commands set held)) s
-    reset_all : {set : Settings} {held : Places} {s : S} {p : Payload} → p.first == 0 ≡ true → command_of p.bytes ≡ Some reset
+    reset_all : {set : Settings} {held : HeldStatements} {s : S} {p : Payload} → p.first == 0 ≡ true → command_of p.bytes ≡ Some reset
         → AnswersPayload (Commands set held) s p (frame (reply_number p) (ok_payload 0 (status_flags true false)))
-        (At (Commands (settings_at_first set.capabilities set.keyspace) [])) (context.dropped s)
-    executed : {set after : Settings} {held held_then : Places} {s now : S} {p : Payload} (bytes text : List ℕ) (outcome : Outcome)
+        (At (Commands (settings_at_first set.capabilities set.keyspace) none_held)) (context.dropped s)
+    executed : {set after : Settings} {held held_then : HeldStatements} {s now : S} {p : Payload} (bytes text : List ℕ) (outcome : Outcome)
         → p.first == 0 ≡ true → command_of p.bytes ≡ Some (execute bytes) → RunsHeld held bytes text held_then → GivesText context May set s text outcome after now
         → AnswersPayload (Commands set held) s p (binary_encoded (set_end_of set.capabilities) outcome (reply_number p) (status_in context after now))
         (At (Commands after held_then)) now
-    of_statement : {set : Settings} {held held_then : Places} {s : S} {p : Payload} {out : List ℕ} (request : Request) → p.first == 0 ≡ true → command_of p.bytes ≡ Some request
+    of_statement : {set : Settings} {held held_then : HeldStatements} {s : S} {p : Payload} {out : List ℕ} (request : Request) → p.first == 0 ≡ true → command_of p.bytes ≡ Some request
         → AnswersStatement context.schema (set_end_of set.capabilities) (status_in context set s) (reply_number p) held request out held_then
         → AnswersPayload (Commands set held) s p out (At (Commands set held_then)) s
 

@@ -16,7 +16,7 @@ ghost use Rattle.session.specs.conversation.inner.Sessions.{command_payload};
 use crate::conversation::connection_state::{ConnectionState, Phase, Settings, first_number};
 use crate::conversation::end::End;
 use crate::conversation::login::{keyspace_named, put_answer, put_response};
-use crate::conversation::prepared::{closed, put_prepare, put_statement_reset, without};
+use crate::conversation::prepared::{closed, put_prepare, put_statement_reset, with_long};
 use crate::conversation::reply::{
     REPLY_ROOM, RowForm, put_pong, put_refusal, set_end_of, status_flags, status_of,
 };
@@ -219,7 +219,7 @@ impl<W: World + Send + Sync, J: Naming + Send + Sync, G: Gate, R: Threads + Wait
                 self.put_execute(pass, state, settings, held, execution, number)
             }
             Ok(Command::LongData(data)) => {
-                let held = without(held, data);
+                let held = with_long(self.alloc, held, data);
                 (ConnectionState::At(Phase::Commands(settings, held)), None)
             }
             Ok(Command::Close(closing)) => {
@@ -228,14 +228,7 @@ impl<W: World + Send + Sync, J: Naming + Send + Sync, G: Gate, R: Threads + Wait
             }
             Ok(Command::ResetStatement(resetting)) => {
                 let status = status_of(settings.autocommit, &state.tx);
-                let held = put_statement_reset(
-                    self.alloc,
-                    held,
-                    resetting,
-                    number,
-                    status,
-                    &mut state.reply,
-                );
+                let held = put_statement_reset(held, resetting, number, status, &mut state.reply);
                 (ConnectionState::At(Phase::Commands(settings, held)), None)
             }
             Ok(Command::Fetch) => {

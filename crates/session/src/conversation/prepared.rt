@@ -12,7 +12,7 @@ ghost use Rattle.resultset.specs.declared.SetEnd.{SetEnd};
 ghost use Rattle.resultset.specs.PreparedReplies.{prepare_encoded};
 ghost use Rattle.prepared_statements.specs.declared.held.Prepared.{Prepared};
 ghost use Rattle.client_words.specs.Aliases.{Names};
-ghost use Rattle.prepared_statements.specs.Held.{Places, held_at, ClosesHeld, DropsHeld, RunsHeld};
+ghost use Rattle.prepared_statements.specs.Held.{HeldStatements, held_at, ClosesHeld, LongHeld, RunsHeld, UsesHeld, WasTooLarge};
 ghost use Rattle.session.specs.conversation.Means.{Means, context_of};
 ghost use Rattle.session.specs.conversation.Packets.{reply_number};
 ghost use Rattle.session.specs.conversation.inner.Means.{LeadsKept};
@@ -48,12 +48,12 @@ pub(crate) fn closed(held: Held, bytes: &[u8]) -> Held
     held
 }
 
-/// What is held after long data. It isn't taken: the statement that it is for is given up, so that none is executed without it.
-pub(crate) fn without(held: Held, bytes: &[u8]) -> Held
-    ensures { DropsHeld held bytes.now result }
+/// What is held after long data.
+pub(crate) fn with_long(alloc: Global, held: Held, bytes: &[u8]) -> Held
+    ensures { LongHeld held bytes.now result }
 {
     let mut held = held;
-    held.give_up_named(bytes);
+    held.take_long(alloc, bytes);
     held
 }
 
@@ -300,15 +300,17 @@ pub(crate) fn put_prepare(
 fn put_not_executed(number: u8, why: NotExecuted, reply: &mut BytesMut)
     requires empty { reply.old.items ≡ [] }
     requires room { REPLY_ROOM ≤ reply.old.spare }
-    ensures executes { (schema : VSchema) (end : SetEnd) (status : ℕ) (held : Places) (bytes : List ℕ)
-        → ((why ≡ NotExecuted.OutOfMemory → ⊥) → (text : List ℕ) (then : Places) → RunsHeld held bytes text then → ⊥)
+    ensures executes { (schema : VSchema) (end : SetEnd) (status : ℕ) (held then : HeldStatements) (bytes : List ℕ) → UsesHeld held bytes then
+        → ((why ≡ NotExecuted.OutOfMemory → ⊥) → (text : List ℕ) (after : HeldStatements) → RunsHeld held bytes text after → ⊥)
+        → (why ≡ NotExecuted.TooLarge → WasTooLarge held bytes)
         → (why ≡ NotExecuted.Unknown → (n : ℕ) (rest : List ℕ) (q : Prepared) → n < 2 ^ 32 → bytes ≡ little_endian 4 n ++ rest → held_at held n ≡ Some q → ⊥)
-        → AnswersStatement schema end status number held (execute bytes) reply.new.items held }
+        → AnswersStatement schema end status number held (execute bytes) reply.new.items then }
     ensures room { REPLY_ROOM ≤ length reply.new.items + reply.new.spare }
 {
     match why {
         NotExecuted::OutOfMemory => put_refusal(number, Refusal::OutOfMemory, reply),
         NotExecuted::NotSupported => put_refusal(number, Refusal::NotSupported, reply),
+        NotExecuted::TooLarge => put_refusal(number, Refusal::PacketTooLarge, reply),
         NotExecuted::Unknown => put_one_fault(number, StatementFault::UnknownStatement, reply),
         NotExecuted::Wrong => put_one_fault(number, StatementFault::WrongArguments, reply),
     }
@@ -316,7 +318,6 @@ fn put_not_executed(number: u8, why: NotExecuted, reply: &mut BytesMut)
 
 /// The reply to a statement's reset, and what is held then.
 pub(crate) fn put_statement_reset(
-    alloc: Global,
     held: Held,
     bytes: &[u8],
     number: u8,
@@ -329,19 +330,12 @@ pub(crate) fn put_statement_reset(
     ensures room { REPLY_ROOM ≤ length reply.new.items + reply.new.spare }
 {
     let mut held = held;
-    match held.reset(alloc, bytes) {
-        Ok(()) => {
-            put_pong(number, status, reply);
-            held
-        }
-        Err(NotExecuted::Unknown) => {
-            put_one_fault(number, StatementFault::UnknownStatement, reply);
-            held
-        }
-        Err(_) => {
-            put_refusal(number, Refusal::OutOfMemory, reply);
-            held
-        }
+    if held.reset(bytes) {
+        put_pong(number, status, reply);
+        held
+    } else {
+        put_one_fault(number, StatementFault::UnknownStatement, reply);
+        held
     }
 }
 

@@ -104,8 +104,8 @@ returns-in-Ok-LongData-clause-answers g c =
     λ s held. (
       s,
       held,
-      one_statement_reply _ _ c.args.settings c.args.held c.without-held.result s (command_payload c.args.last c.args.bytes.now) _ _ refl (sym e)
-          (rw c.requires.empty (a.dropped c.without-held.ensures)),
+      one_statement_reply _ _ c.args.settings c.args.held c.with_long-held.result s (command_payload c.args.last c.args.bytes.now) _ _ refl (sym e)
+          (rw c.requires.empty (a.takes_long c.with_long-held.ensures)),
     )
 
 pub returns-in-Ok-Close-clause-answers : goal.returns-in-Ok-Close-clause-answers

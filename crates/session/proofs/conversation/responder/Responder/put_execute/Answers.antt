@@ -16,6 +16,7 @@ pub returns-in-Err-clause-answers : goal.returns-in-Err-clause-answers
 returns-in-Err-clause-answers g c = λ payload first is_number is_execute s held. (
   s,
   held,
-  not_run _ _ c.args.self.now.handshake.now c.args.settings c.args.held c.execute.new.self c.args.number c.args.bytes.now _ s payload first is_number is_execute c.in-Err.ensures.err
-      (λ schema end status. c.put_not_executed.ensures.executes schema end status c.args.held c.args.bytes.now c.in-Err.ensures.refused c.in-Err.ensures.unknown),
+  not_run _ _ c.args.self.now.handshake.now c.args.settings c.args.held c.execute.new.self c.args.number c.args.bytes.now _ s payload first is_number is_execute
+      (λ schema end status. c.put_not_executed.ensures.executes schema end status c.args.held c.execute.new.self c.args.bytes.now c.in-Err.ensures.err
+      c.in-Err.ensures.refused c.in-Err.ensures.large c.in-Err.ensures.unknown),
 )
