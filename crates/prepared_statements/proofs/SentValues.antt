@@ -41,6 +41,7 @@ spelled_fits _ _ _ v.null = tt
 spelled_fits _ _ _ (v.number {unsigned = unsigned} width n lt) = number_fits unsigned width n lt
 spelled_fits _ _ _ (v.single {z = z} lt is range) = range_fits z range
 spelled_fits _ _ _ (v.double {z = z} lt is range) = range_fits z range
+spelled_fits _ _ _ (v.decimal {z = z} is range) = range_fits z range
 spelled_fits _ _ _ (v.text bytes) = tt
 
 hole_fits : (is_null : Bool) (long : Option (List ℕ)) (t : ParameterType) (bytes : List ℕ) (value : Value) → BindsHole is_null long t bytes value → IsLiteral value

@@ -1,4 +1,5 @@
 pub mod Bindings
+pub mod Points
 pub mod Spelled
 pub mod Powers
 pub mod Wholes

@@ -1,6 +1,7 @@
 //! Values that a client sends for the holes of a prepared statement.
 #![tactic(auto)]
 
+mod decimal;
 mod execution;
 mod reading;
 mod types;
@@ -29,5 +30,7 @@ pub enum ParameterType {
     /// A FLOAT or a DOUBLE, of which only whole numbers are taken.
     Single,
     Double,
+    /// A DECIMAL as a text, of which only whole numbers are taken.
+    Decimal,
     Text,
 }

@@ -3,6 +3,7 @@ ghost use Rattle.std.specs.Prelude.{◌≡◌, ◌⊎◌, ◌++◌, List, ℕ, E
 ghost use Rattle.mysql_packet.specs.Numbers.{little_endian};
 ghost use Rattle.statement_values.specs.Values.{Spells, SpellsOther, number_of, half_of, width_of};
 
+use crate::decimal::whole_decimal;
 use crate::unread::Unread;
 use crate::whole::{whole_double, whole_single};
 use crate::{ParameterType, Width};
@@ -89,6 +90,23 @@ fn read_double(bytes: &[u8]) -> Result<(Value, &[u8]), Unread>
     }
 }
 
+/// The whole number that a DECIMAL at the front is, and what follows it.
+fn read_decimal(bytes: &[u8]) -> Result<(Value, &[u8]), Unread>
+    ensures found { IfOk result (λ x. (front : List ℕ) × (bytes.now ≡ front ++ x.1.now) × Spells ParameterType.Decimal front x.0) }
+    ensures only { (front rest : List ℕ) (v : Value) → Spells ParameterType.Decimal front v → bytes.now ≡ front ++ rest
+        → MatchResult result (λ x. (x.0 ≡ v) × (x.1.now ≡ rest)) (λ e. ⊥) }
+    ensures other { IfErr result (λ e. e ≡ Unread.NotSupported → (front : List ℕ) × (rest : List ℕ) × (bytes.now ≡ front ++ rest) × SpellsOther ParameterType.Decimal front) }
+    ensures refused { (front rest : List ℕ) → SpellsOther ParameterType.Decimal front → bytes.now ≡ front ++ rest → result ≡ Err Unread.NotSupported }
+{
+    match read_length_encoded_string(bytes) {
+        Some((text, rest)) => match whole_decimal(text) {
+            Some(n) => Ok((Value::Int(n), rest)),
+            None => Err(Unread::NotSupported),
+        },
+        None => Err(Unread::Wrong),
+    }
+}
+
 /// The value of a type at the front, and what follows it. Bytes that are no value of the type are refused.
 pub fn read_value(
     alloc: Global,
@@ -109,6 +127,7 @@ pub fn read_value(
         },
         ParameterType::Single => read_single(bytes),
         ParameterType::Double => read_double(bytes),
+        ParameterType::Decimal => read_decimal(bytes),
         ParameterType::Text => match read_length_encoded_string(bytes) {
             Some((text, rest)) => Ok((Value::Bytes(Items::from_slice(alloc, text)?), rest)),
             None => Err(Unread::Wrong),

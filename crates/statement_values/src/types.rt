@@ -1,7 +1,7 @@
 //! Reads the types of values.
 ghost use Rattle.std.specs.Prelude.{◌≡◌, ◌<◌, ℕ, List, ◌∷◌, length, IfOk, IfSome, MatchResult, Err, None};
 ghost use Rattle.statement_values.specs.declared.ParameterType.{ParameterType};
-ghost use Rattle.statement_values.specs.Values.{is_text_type, width_named, number_type, type_named};
+ghost use Rattle.statement_values.specs.Values.{is_text_type, is_decimal_type, width_named, number_type, type_named};
 ghost use Rattle.statement_values.specs.Executions.{TellsTypes, TellsForeign, IsRefusedSo};
 
 use crate::unread::Unread;
@@ -13,6 +13,12 @@ fn is_text_type(named: u8) -> bool
     ensures { result ≡ is_text_type named }
 {
     named == 0x0F || (0xF9 <= named && named <= 0xFE)
+}
+
+fn is_decimal_type(named: u8) -> bool
+    ensures { result ≡ is_decimal_type named }
+{
+    named == 0x00 || named == 0xF6
 }
 
 fn width_named(named: u8) -> Option<Width>
@@ -52,6 +58,8 @@ fn type_named(named: u8, flags: u8) -> Option<ParameterType>
         Some(ParameterType::Single)
     } else if named == 0x05 {
         Some(ParameterType::Double)
+    } else if is_decimal_type(named) {
+        Some(ParameterType::Decimal)
     } else {
         number_type(width_named(named), flags)
     }
