@@ -15,6 +15,7 @@ WRONG = "ERROR 1210 (HY000): wrong arguments"
 UNKNOWN = "ERROR 1243 (HY000): unknown prepared statement"
 NOT_SUPPORTED = "ERROR 1235 (42000): not supported"
 TOO_MANY = "ERROR 1461 (42000): too many statements"
+TOO_LARGE = "ERROR 1153 (08S01): packet too large"
 # what a connection's texts may take of the process beyond what it takes without them
 MOST_HELD = 16 << 20
 INT, TEXT = b"\x08\0", b"\xfd\0"
@@ -94,9 +95,11 @@ def types_are_known(session):
     check("a DOUBLE that is no number", session.execute(statement, b"\0\1\x05\0" + b"\0\0\0\0\0\0\xf8\x7f"), NOT_SUPPORTED)
     check("a DOUBLE that is infinite", session.execute(statement, b"\0\1\x05\0" + b"\0\0\0\0\0\0\xf0\x7f"), NOT_SUPPORTED)
     check("a DOUBLE of 0.5", session.execute(statement, b"\0\1\x05\0" + b"\0\0\0\0\0\0\xe0\x3f"), NOT_SUPPORTED)
-    for spelled in (b"1e3", b"1.5", b"--1", b"", b"18446744073709551616", b"9" * 200):
-        answer = session.execute(statement, b"\0\1\xf6\0" + bytes([len(spelled)]) + spelled)
-        check(f"a DECIMAL {spelled[:20]}", answer[:10] in (NOT_SUPPORTED[:10], WRONG[:10], SYNTAX[:10]), True)
+    for kind in (0x00, 0xF6):
+        for spelled in (b"4", b"+4.", b"-0.000", b"0004.00"):
+            check(f"a DECIMAL {spelled}", session.execute(statement, b"\0\1" + bytes([kind, 0, len(spelled)]) + spelled), "rows 0")
+        for spelled in (b"1e3", b"1.5", b"--1", b"", b".", b".0", b"1.0.0", b" 1", b"18446744073709551616", b"9" * 200):
+            check(f"a DECIMAL {spelled[:20]}", session.execute(statement, b"\0\1" + bytes([kind, 0, len(spelled)]) + spelled), NOT_SUPPORTED)
     check("a cursor", session.execute(statement, b"\0\1" + INT + number(4), flags=1), NOT_SUPPORTED)
     session.client.command(FETCH, number(statement, 4) + number(1, 4))
     check("FETCH", error_of(session.client.read()) in (NOT_SUPPORTED, UNKNOWN), True)
@@ -137,7 +140,8 @@ def statements_are_counted(router):
     check("1,024 statements", sum(isinstance(it, int) for it in answers), 1024)
     check("one more", session.prepare(b"SELECT id FROM t WHERE id = ?"), TOO_MANY)
     session.client.command(CLOSE, number(answers[500], 4))
-    check("one in the place of one that was closed", isinstance(session.prepare(b"SELECT id FROM t WHERE id = ?"), int))
+    anew = session.prepare(b"SELECT id FROM t WHERE id = ?")
+    check("one in the place of one that was closed, with a number of its own", isinstance(anew, int) and anew not in answers)
     session.client.command(0x1F)
     check("COM_RESET_CONNECTION", session.client.read()[0], 0)
     check("gives them all up", session.execute(answers[0], b""), UNKNOWN)
@@ -172,7 +176,19 @@ def long_data_is_bounded(router):
     grown = memory(router, "VmHWM:") - before
     print(f"  256 MB of long data were held in {grown >> 20} MB", flush=True)
     check("what long data takes", grown <= MOST_HELD)
-    check("and is refused at EXECUTE", session.execute(statement, b"\0\1" + TEXT)[:5], "ERROR")
+    check("and is refused at EXECUTE", session.execute(statement, b"\0\1" + TEXT), TOO_LARGE)
+    check("once", session.execute(statement, b"\0\1" + TEXT + b"\1a"), "rows 0")
+    other = session.prepare(b"SELECT k FROM b WHERE v = ?")
+    session.client.command(LONG, number(statement, 4) + b"\0\0" + b"x" * 600000)
+    session.client.command(LONG, number(other, 4) + b"\0\0" + b"x" * 600000)
+    check("the limit is that of the connection", session.execute(other, b"\0\1" + TEXT), TOO_LARGE)
+    check("what was there before is taken", session.execute(statement, b"\0\1" + TEXT), "rows 0")
+    session.client.command(LONG, number(other, 4) + b"\1\0a")
+    check("a hole that isn't there", session.execute(other, b"\0\1" + TEXT), WRONG)
+    session.client.command(LONG, number(other, 4) + b"\1\0a")
+    session.client.command(RESET, number(other, 4))
+    check("RESET", session.client.read()[0], 0)
+    check("gives it up", session.execute(other, b"\0\1" + TEXT + b"\1a"), "rows 0")
     session.goes_on("long data, again")
 
 
