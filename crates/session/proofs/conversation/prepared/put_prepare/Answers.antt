@@ -5,7 +5,7 @@ use Rattle.session.proofs.conversation.prepared.put_prepare.Goals as goal
 pub returns-in-Ok-named_shown-clause-answers : goal.returns-in-Ok-named_shown-clause-answers
 returns-in-Ok-named_shown-clause-answers c =
     c.put_new.ensures.answers c.args.schema.now c.args.text.now c.in-Ok.field-0.statement c.in-Ok.field-0.names c.in-Ok.ensures.found
-    (rw c.as_slice-in-Ok-named_shown.ensures c.in-Ok-named_shown.ensures.shows)
+    (rw c.as_slice-in-Ok-named_shown.ensures (rw c.as_slice-in-Ok.ensures at c.in-Ok-named_shown.ensures.shows))
 
 pub returns-in-Err-named_shown-clause-answers : goal.returns-in-Err-named_shown-clause-answers
 returns-in-Err-named_shown-clause-answers c =

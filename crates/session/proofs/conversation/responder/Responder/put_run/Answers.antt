@@ -15,7 +15,7 @@ returns-in-None-clause-gives g c =
             next.0,
             next.1,
             x.run next.2 (λ e statement is_asked. let differs : false ≡ true = sym run ∙ e in cc)
-                c.requires.held (λ e whole names is_said. let differs : false ≡ true = sym run ∙ ap is_not_run e in cc),
+                c.requires.held (λ e whole names is_said. let differs : false ≡ true = sym run ∙ e in cc),
           )),
       bytes,
     )
