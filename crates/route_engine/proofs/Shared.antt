@@ -30,10 +30,11 @@ use Rattle.shard_calls.specs.contracts.tx.OpenTx.TheInside as open_inside
 use Rattle.shard_calls.specs.contracts.tx.Tx as tx
 use Rattle.shard_calls.specs.contracts.tx.Tx.TheInside as tx_inside
 use Rattle.shard_contents.specs.contracts.pending.Pending as pending
+use Rattle.shard_contents.proofs.own_changes.OwnChanges.TheSendSync as own
 use Rattle.sql_tree.proofs.Condition.TheLaws.TheKnot as condition
 
 pending_send : IsSend pending.the_row
-pending_send = search (std.crosses, condition.crosses, sendable) depth 60 fits 20000
+pending_send = search (own.the_send, std.crosses, condition.crosses, sendable) depth 60 fits 20000
 
 module _ (W J : RattleType) (w : world.Ghosts W.Denot) (j : naming.Ghosts J.Denot) where
   shard_sent : IsSend (locked.the_row W J w j)
