@@ -113,27 +113,24 @@ bound_next bitmap long types bytes read sent left t kinds rest after front v so_
 of_sent : (t : ParameterType) (bytes : List ℕ) (v : Value) → BindsHole false None t bytes v → Spells t bytes v
 of_sent t bytes v (e.sent s) = s
 
-pub sent_hole : (is_null : Bool) (long : Option (List ℕ)) (t : ParameterType) (bytes : List ℕ) (v : Value) → is_null ≡ false → long ≡ None
-    → BindsHole is_null long t bytes v → Spells t bytes v
-sent_hole is_null long t bytes v n l h =
-    of_sent t bytes v (subst (λ (b : Bool). BindsHole b None t bytes v) n (subst (λ (o : Option (List ℕ)). BindsHole is_null o t bytes v) l h))
+pub sent_hole : (is_null : Bool) (t : ParameterType) (bytes : List ℕ) (v : Value) → is_null ≡ false → BindsHole is_null None t bytes v → Spells t bytes v
+sent_hole is_null t bytes v n h = of_sent t bytes v (subst (λ (b : Bool). BindsHole b None t bytes v) n h)
 
 -- with long data, or with its bit, a hole has no bytes
-of_long : (content : List ℕ) (t : ParameterType) (bytes : List ℕ) (v : Value) → BindsHole false (Some content) t bytes v → (v ≡ Bytes content) × (bytes ≡ [])
-of_long content t _ _ e.long = (refl, refl)
+of_long : (is_null : Bool) (content : List ℕ) (t : ParameterType) (bytes : List ℕ) (v : Value) → BindsHole is_null (Some content) t bytes v
+    → (v ≡ Bytes content) × (bytes ≡ [])
+of_long is_null content t _ _ e.long = (refl, refl)
 
-pub long_hole : (is_null : Bool) (long : Option (List ℕ)) (content : List ℕ) (t : ParameterType) (bytes : List ℕ) (v : Value) → is_null ≡ false
-    → long ≡ Some content → BindsHole is_null long t bytes v → (v ≡ Bytes content) × (bytes ≡ [])
-long_hole is_null long content t bytes v n l h =
-    of_long content t bytes v
-    (subst (λ (b : Bool). BindsHole b (Some content) t bytes v) n (subst (λ (o : Option (List ℕ)). BindsHole is_null o t bytes v) l h))
+pub long_hole : (is_null : Bool) (long : Option (List ℕ)) (content : List ℕ) (t : ParameterType) (bytes : List ℕ) (v : Value) → long ≡ Some content
+    → BindsHole is_null long t bytes v → (v ≡ Bytes content) × (bytes ≡ [])
+long_hole is_null long content t bytes v l h = of_long is_null content t bytes v (subst (λ (o : Option (List ℕ)). BindsHole is_null o t bytes v) l h)
 
-of_null : (long : Option (List ℕ)) (t : ParameterType) (bytes : List ℕ) (v : Value) → BindsHole true long t bytes v → (v ≡ Null) × (bytes ≡ [])
-of_null long t _ _ e.null = (refl, refl)
+of_null : (t : ParameterType) (bytes : List ℕ) (v : Value) → BindsHole true None t bytes v → (v ≡ Null) × (bytes ≡ [])
+of_null t _ _ e.null = (refl, refl)
 
-pub null_hole : (is_null : Bool) (long : Option (List ℕ)) (t : ParameterType) (bytes : List ℕ) (v : Value) → is_null ≡ true
-    → BindsHole is_null long t bytes v → (v ≡ Null) × (bytes ≡ [])
-null_hole is_null long t bytes v n h = of_null long t bytes v (subst (λ (b : Bool). BindsHole b long t bytes v) n h)
+pub null_hole : (is_null : Bool) (t : ParameterType) (bytes : List ℕ) (v : Value) → is_null ≡ true → BindsHole is_null None t bytes v
+    → (v ≡ Null) × (bytes ≡ [])
+null_hole is_null t bytes v n h = of_null t bytes v (subst (λ (b : Bool). BindsHole b None t bytes v) n h)
 
 -- ---- the loop over types
 

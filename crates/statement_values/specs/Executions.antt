@@ -11,10 +11,10 @@ use Rattle.statement_values.specs.Values.{Spells, SpellsOther, type_named}
 abbrev pub has_bit : List ℕ → ℕ → Bool
 has_bit bitmap n = slice_index bitmap (n / 8) / 2 ^ (n % 8) % 2 == 1
 
--- A hole's value: NULL if its bit says so; the long data that came before, if any did; or what the bytes spell by its type.
+-- A hole's value: the long data that came before, if any did, whatever its bit says; NULL if its bit says so; or what the bytes spell by its type.
 pub data BindsHole : Bool → Option (List ℕ) → ParameterType → List ℕ → Value → Type 0 where
-  null : {long : Option (List ℕ)} {t : ParameterType} → BindsHole true long t [] Null
-  long : {content : List ℕ} {t : ParameterType} → BindsHole false (Some content) t [] (Bytes content)
+  null : {t : ParameterType} → BindsHole true None t [] Null
+  long : {is_null : Bool} {content : List ℕ} {t : ParameterType} → BindsHole is_null (Some content) t [] (Bytes content)
   sent : {t : ParameterType} {bytes : List ℕ} {v : Value} → Spells t bytes v → BindsHole false None t bytes v
 
 -- the values of all holes from one on, whose bytes are these and no more

@@ -28,6 +28,25 @@ fn has_bit(bitmap: &[u8], hole: usize) -> bool
     byte / place % 2 == 1
 }
 
+// The value of a hole for which no long data came.
+fn read_sent(
+    alloc: Global,
+    is_null: bool,
+    kind: ParameterType,
+    bytes: &[u8],
+) -> Result<(Value, &[u8]), Unread>
+    ensures found { IfOk result (λ x. (front : List ℕ) × (bytes.now ≡ front ++ x.1.now) × BindsHole is_null None kind front x.0) }
+    ensures only { (front rest : List ℕ) (v : Value) → BindsHole is_null None kind front v → bytes.now ≡ front ++ rest
+        → MatchResult result (λ x. (x.0 ≡ v) × (x.1.now ≡ rest)) (λ e. e ≡ Unread.OutOfMemory) }
+    ensures other { IfErr result (λ e. e ≡ Unread.NotSupported → (front : List ℕ) × (rest : List ℕ) × (bytes.now ≡ front ++ rest) × HoleIsOther is_null None kind front) }
+    ensures refused { (front rest : List ℕ) → HoleIsOther is_null None kind front → bytes.now ≡ front ++ rest → result ≡ Err Unread.NotSupported }
+{
+    if is_null {
+        return Ok((Value::Null, bytes));
+    }
+    read_value(alloc, kind, bytes)
+}
+
 /// The value of a hole, and the bytes after it.
 fn read_hole<'b>(
     alloc: Global,
@@ -42,15 +61,12 @@ fn read_hole<'b>(
     ensures other { IfErr result (λ e. e ≡ Unread.NotSupported → (front : List ℕ) × (rest : List ℕ) × (bytes.now ≡ front ++ rest) × HoleIsOther is_null long.now kind front) }
     ensures refused { (front rest : List ℕ) → HoleIsOther is_null long.now kind front → bytes.now ≡ front ++ rest → result ≡ Err Unread.NotSupported }
 {
-    if is_null {
-        return Ok((Value::Null, bytes));
-    }
     match long {
         Some(content) => {
             let copied = Items::from_slice(alloc, content.as_slice())?;
             Ok((Value::Bytes(copied), bytes))
         }
-        None => read_value(alloc, kind, bytes),
+        None => read_sent(alloc, is_null, kind, bytes),
     }
 }
 
