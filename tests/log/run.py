@@ -197,6 +197,8 @@ def too_many_connections(program):
         each.close()
     time.sleep(1)
     talk(server, USER)
+    # a signal doesn't wait until the lines are written
+    time.sleep(0.5)
     server.process.terminate()
     lines = told(server.end()[0])
     check("it is told once", [fields["connections"] for fields in of(lines, "warn connections_full")], [str(descriptors - 32)])
